@@ -1,0 +1,8 @@
+// A row of a table: four numbers.
+#[derive(Clone, Copy, PartialEq, Eq)]
+pub struct Row {
+    pub first: u32,
+    pub second: u32,
+    pub third: u32,
+    pub fourth: u32,
+}

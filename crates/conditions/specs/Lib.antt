@@ -1,0 +1,3 @@
+pub mod Choices
+pub mod Meanings
+pub mod Kinds
