@@ -14,9 +14,12 @@ use Rattle.std.proofs.shelf.Tests.{cases-lt}
 use Rattle.book.specs.declared.line.Line.{Line}
 use Rattle.book.specs.declared.book.Book.{Book}
 use Rattle.book.specs.declared.faults.BookFault.{BookFault}
+use Rattle.book.specs.declared.pending.Pending.{Pending}
+use Rattle.conditions.specs.Choices.{positions}
+use Rattle.book.specs.Numbers.{held}
 use Rattle.book.specs.Lines.{seen, facts}
-use Rattle.book.specs.Calls.{Effect, accepted}
-use Rattle.book.specs.Books.{Possible, state, reach, Called, Answered}
+use Rattle.book.specs.Calls.{State, Effect, accepted}
+use Rattle.book.specs.Books.{Possible, state, reach, Called, Performed, Answered}
 use Rattle.book.proofs.Dropping.{drop-further}
 use Rattle.book.proofs.Grounds.{Clear, Stops, clear, stops, rising, told}
 
@@ -48,6 +51,21 @@ module _ {C : Type 0} (m : C → ℕ → Bool) {A : Type 0} {e : Effect A} {a : 
     lender = lender;
   }
 
+-- the same, with what the call means
+module _ {C : Type 0} (m : C → ℕ → Bool) {A : Type 0} {e : Effect A} {p : State → State → Type 0} {a : Book C} where
+  pub stopped : {f : BookFault} → rising 0 (e .grounds (state m a)) ≡ true → Stops (e .grounds (state m a)) f → Performed m e p a a (Err f)
+  stopped up is = record { called = refused m up is; plainly = tt }
+
+  pub performed : {b : Book C} {n : A} (k : ℕ) → Clear (e .grounds (state m a))
+      → n ≡ e .answer (state m a) → state m b ≡ e .leaves (state m a)
+      → k ≤ reach m a b → drop k (now (b .lines)) ≡ drop k (now (a .lines))
+      → (Possible (state m a) → Possible (e .leaves (state m a)))
+      → name (b .lines) ≡ name (a .lines)
+      → p (state m a) (e .leaves (state m a)) → Performed m e p a b (Ok n)
+  performed k is gives leaves within beyond possible lender plainly =
+      record { called = done m k is gives leaves within beyond possible lender; plainly = subst (p (state m a)) (sym leaves) plainly }
+
+-- a call that only reads
 module _ {C : Type 0} (m : C → ℕ → Bool) {A : Type 0} {e : Effect A} {b : Book C} where
   pub unanswered : {f : BookFault} → rising 0 (e .grounds (state m b)) ≡ true → Stops (e .grounds (state m b)) f → Answered m e b (Err f)
   unanswered {f} up is = record { answers = sym (stops _ f (e .answer (state m b)) is); told = told 0 _ f up is }
@@ -79,3 +97,7 @@ module _ {C : Type 0} (m : C → ℕ → Bool) where
   -- the lines of a count that the memory holds
   pub facts-count : (n : ℕ) (ls : List (Line C)) → n ≤ length ls → n ≡ length (facts m n ls)
   facts-count n ls h = omega (arith, facts-long n ls)
+
+-- no more are pending than there are positions
+pub held-few : (p : Pending) → length (held p) ≤ positions
+held-few p = omega (arith, length-take (p .count) (p .numbers), p .few)

@@ -5,3 +5,11 @@ pub mod Counting
 pub mod Grounds
 pub mod Possibly
 pub mod Calling
+pub mod Making
+pub mod Splitting
+pub mod Updating
+pub mod Plainly
+pub mod Showing
+pub mod Meanings
+pub mod Voting
+pub mod Lowest

@@ -1,9 +1,10 @@
 -- A book in memory, and what every call promises of it.
 use mathlib.Core.Path.{_≡_}
 use mathlib.Core.Bool.{Bool, false}
-use Prim.Native.Nat.{ℕ, max}
+use Prim.Native.Nat.{ℕ, _^_, max}
 use lib.ListN.{length, drop}
 use denote.Ref.{now, name}
+use Rattle.std.specs.Vec.{made}
 use Rattle.std.specs.shelf.Lists.{All}
 use Rattle.std.specs.declared.result.Result.{Result}
 use Rattle.std.specs.declared.result.Result.the-variants.{Err}
@@ -11,7 +12,9 @@ use Rattle.book.specs.declared.book.Book.{Book}
 use Rattle.book.specs.declared.faults.BookFault.{BookFault}
 use Rattle.book.specs.Numbers.{held}
 use Rattle.book.specs.Lines.{facts, impossible}
-use Rattle.book.specs.Calls.{State, Effect, reply, after, Told}
+use Rattle.book.specs.declared.vote.Vote.{Vote}
+use Rattle.book.specs.Votes.{Says}
+use Rattle.book.specs.Calls.{State, Effect, reply, after, Told, voted, speaks-against}
 
 -- no line in use is impossible
 abbrev pub Possible : State → Type 0
@@ -54,7 +57,17 @@ module _ {C : Type 0} (m : C → ℕ → Bool) where
     pub possible : Possible (state a) → Possible (state b)
     pub lender : Same-memory a b
 
+  -- A call that also means this of the book before and after it, where it is accepted.
+  pub record Performed {A : Type 0} (e : Effect A) (meaning : State → State → Type 0) (a b : Book C) (r : Result A BookFault) : Type 0 where
+    pub called : Called e a b r
+    pub plainly : made r (λ _. meaning (state a) (state b))
+
   -- A call that only reads the book answered r.
   pub record Answered {A : Type 0} (e : Effect A) (b : Book C) (r : Result A BookFault) : Type 0 where
     pub answers : r ≡ reply e (state b)
     pub told : Told (e .grounds (state b)) r
+
+  -- A vote on the transaction n answered r: where it is accepted, it says this of the choices of the pending ones.
+  pub record Polled (n : ℕ) (b : Book C) (r : Result Vote BookFault) : Type 0 where
+    pub answered : Answered (voted n) b r
+    pub plainly : made r (λ v. Says v (2 ^ length (state b .pending)) (speaks-against n (state b)))

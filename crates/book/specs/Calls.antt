@@ -12,14 +12,20 @@ use Rattle.std.specs.declared.option.Option.{Option}
 use Rattle.std.specs.declared.option.Option.the-variants.{Some, None}
 use Rattle.std.specs.declared.result.Result.{Result}
 use Rattle.std.specs.declared.result.Result.the-variants.{Ok, Err}
-use Rattle.conditions.specs.Choices.{positions}
+use Rattle.conditions.specs.Choices.{positions, bit}
 use Rattle.book.specs.declared.row.Row.{Row}
+use Rattle.book.specs.declared.filter.RawFilter.{RawFilter}
+use Rattle.book.specs.declared.change.RawChange.{RawChange}
+use Rattle.book.specs.declared.vote.Vote.{Vote}
 use Rattle.book.specs.declared.faults.BookFault.{BookFault}
-use Rattle.book.specs.declared.faults.BookFault.the-variants.{GarbledWord, NotPending, NoTable, BadChoice, TooManyPending, NumbersSpent, NoRoom, BadMaking}
+use Rattle.book.specs.declared.faults.BookFault.the-variants.{GarbledWord, NotPending, NoTable, BadFilter, BadChange, BadChoice, TooManyPending, NumbersSpent, NoRoom, BadMaking}
 use Rattle.book.specs.Faults.{refusal}
+use Rattle.book.specs.Filters.{passes, good-filter, filter-fault, changed, good-change, change-fault}
 use Rattle.book.specs.Numbers.{place, others, following}
 use Rattle.book.specs.Lines.{Fact, inserted-line, decided-line}
+use Rattle.book.specs.Writes.{Rewrite, deleted-line, updated-lines}
 use Rattle.book.specs.Tables.{row-count}
+use Rattle.book.specs.Votes.{orphaned, lowest-below, vote-on}
 
 -- a book as it is meant: the lines its memory has room for, its first number, the next one unless they are spent,
 -- the numbers pending in order of opening, and the lines in use
@@ -80,6 +86,12 @@ not-pending n s = record { applies = not (isSome (place n (s .pending))); fault 
 abbrev pub no-table : ℕ → Ground
 no-table table = record { applies = not (leb 1 table && leb table 4); fault = NoTable table }
 
+abbrev pub bad-filter : RawFilter → Ground
+bad-filter filter = record { applies = not (good-filter filter); fault = BadFilter (filter-fault filter) }
+
+abbrev pub bad-change : RawChange → Ground
+bad-change change = record { applies = not (good-change change); fault = BadChange (change-fault change) }
+
 -- a choice is named by its bits at the positions in use
 abbrev pub bad-choice : ℕ → State → Ground
 bad-choice choice s = record { applies = leb (2 ^ length (s .pending)) choice; fault = BadChoice choice }
@@ -133,6 +145,30 @@ inserted n table row = record {
   leaves = λ s. with-lines s (lines-inserted n table row s);
 }
 
+abbrev pub lines-deleted : ℕ → ℕ → RawFilter → State → List Fact
+lines-deleted n table filter s = joined (deleted-line (position n s) table (passes filter)) (s .lines)
+
+abbrev pub deleted : ℕ → ℕ → RawFilter → Effect ℕ
+deleted n table filter = record {
+  grounds = λ s. not-pending n s ∷ (no-table table ∷ (bad-filter filter ∷ []));
+  answer = λ s. length (lines-deleted n table filter s);
+  leaves = λ s. with-lines s (lines-deleted n table filter s);
+}
+
+abbrev pub rewrite-of : ℕ → ℕ → RawFilter → RawChange → State → Rewrite
+rewrite-of n table filter change s = record { position = position n s; table = table; passing = passes filter; changing = changed change }
+
+abbrev pub lines-updated : ℕ → ℕ → RawFilter → RawChange → State → List Fact
+lines-updated n table filter change s = updated-lines (rewrite-of n table filter change s) (s .lines)
+
+abbrev pub updated : ℕ → ℕ → RawFilter → RawChange → Effect ℕ
+updated n table filter change = record {
+  grounds = λ s.
+      not-pending n s ∷ (no-table table ∷ (bad-filter filter ∷ (bad-change change ∷ (no-room s (lines-updated n table filter change s) ∷ []))));
+  answer = λ s. length (lines-updated n table filter change s);
+  leaves = λ s. with-lines s (lines-updated n table filter change s);
+}
+
 -- every line decided at the number's position, and the impossible ones dropped
 abbrev pub lines-decided : ℕ → ℕ → State → List Fact
 lines-decided n word s = joined (decided-line (position n s) (eqb word 1)) (s .lines)
@@ -149,5 +185,16 @@ abbrev pub counted : ℕ → ℕ → Effect ℕ
 counted table choice = record {
   grounds = λ s. no-table table ∷ (bad-choice choice s ∷ []);
   answer = λ s. row-count table choice (s .lines);
+  leaves = λ s. s;
+}
+
+-- a choice in which the transaction n commits has an orphan
+abbrev pub speaks-against : ℕ → State → ℕ → Bool
+speaks-against n s c = bit (position n s) c && orphaned c (s .lines)
+
+abbrev pub voted : ℕ → Effect Vote
+voted n = record {
+  grounds = λ s. not-pending n s ∷ [];
+  answer = λ s. vote-on (lowest-below (2 ^ length (s .pending)) (speaks-against n s));
   leaves = λ s. s;
 }

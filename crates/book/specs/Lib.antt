@@ -1,6 +1,10 @@
 pub mod Faults
+pub mod Filters
 pub mod Numbers
 pub mod Lines
+pub mod Writes
 pub mod Tables
+pub mod Votes
 pub mod Calls
+pub mod Plain
 pub mod Books

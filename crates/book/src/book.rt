@@ -1,12 +1,19 @@
 ghost use mathlib.Core.Path.{_≡_};
 ghost use mathlib.Core.List.{[], _∷_};
 ghost use Prim.Native.Nat.{ℕ, _<_, _≤_};
+ghost use lib.Dec.{eqb};
 ghost use lib.ListN.{length, set};
 ghost use denote.Ref.{name};
-ghost use Rattle.book.specs.Calls.{fresh, refusing, garbled, not-pending, no-table, bad-choice, bad-making, opened, inserted, decided, counted, position};
+ghost use Rattle.book.specs.Filters.{passes};
+ghost use Rattle.book.specs.Calls.{fresh, refusing, garbled, not-pending, no-table, bad-choice, bad-making, opened, inserted, deleted, updated, decided, counted, position};
 ghost use Rattle.book.specs.Lines.{facts};
-ghost use Rattle.book.specs.Books.{Called, Answered, state};
+ghost use Rattle.book.specs.Plain.{row-added, rows-removed, Writes, Updates, Decides};
+ghost use Rattle.book.specs.Books.{Called, Performed, Answered, Polled, state};
+use crate::change::RawChange;
 use crate::faults::BookFault;
+use crate::faults::BookFromChange;
+use crate::faults::BookFromFilter;
+use crate::filter::RawFilter;
 use crate::line::Line;
 use crate::line::LineClone;
 use crate::numbers::after;
@@ -14,8 +21,16 @@ use crate::pending::Pending;
 use crate::row::Row;
 use crate::steps::Deciding;
 use crate::steps::DecidingStep;
+use crate::steps::Deleting;
+use crate::steps::DeletingStep;
 use crate::steps::compact;
 use crate::tables::count_rows;
+use crate::update::Update;
+use crate::update::update_lines;
+use crate::vote::Vote;
+use crate::vote::first_choices;
+use crate::vote::orphans;
+use crate::vote::vote_against;
 use conditions::Condition;
 
 // The most lines that a book can work with.
@@ -129,7 +144,7 @@ impl<'a, C: Condition> Book<'a, C> {
 
     // Adds a line that holds when the transaction commits, and answers the lines now in use.
     pub fn insert(&mut self, number: u32, table: u8, row: Row) -> Result<usize, BookFault>
-        ensures { λ r. ⌜ Called (C·Condition .meaning) (inserted number table row) (now (self .entry)) (now (self .exit)) r ⌝ }
+        ensures { λ r. ⌜ Performed (C·Condition .meaning) (inserted number table row) (Writes number (row-added table row)) (now (self .entry)) (now (self .exit)) r ⌝ }
     {
         let position = self.position(number)?;
         check_table(table)?;
@@ -148,18 +163,67 @@ impl<'a, C: Condition> Book<'a, C> {
         Ok(used + 1)
     }
 
+    // Narrows the lines of the table that pass to where the transaction aborts, and answers the lines now in use.
+    pub fn delete(&mut self, number: u32, table: u8, filter: RawFilter) -> Result<usize, BookFault>
+        ensures { λ r. ⌜ Performed (C·Condition .meaning) (deleted number table filter) (Writes number (rows-removed table (passes filter))) (now (self .entry)) (now (self .exit)) r ⌝ }
+    {
+        let position = self.position(number)?;
+        check_table(table)?;
+        let filter = filter.check()?;
+        let used = self.len();
+        let deleting = Deleting {
+            position,
+            table,
+            filter,
+        };
+        let left = compact(self.lines, used, &deleting);
+        self.used = left;
+        Ok(left)
+    }
+
+    // Gives each line of the table that passes a copy with the changed row, which holds where the transaction commits,
+    // narrows the line itself to where it aborts, and answers the lines now in use.
+    pub fn update(
+        &mut self,
+        number: u32,
+        table: u8,
+        filter: RawFilter,
+        change: RawChange,
+    ) -> Result<usize, BookFault>
+        ensures { λ r. ⌜ Performed (C·Condition .meaning) (updated number table filter change) (Updates number table filter change) (now (self .entry)) (now (self .exit)) r ⌝ }
+    {
+        let position = self.position(number)?;
+        check_table(table)?;
+        let filter = filter.check()?;
+        let change = change.check()?;
+        let used = self.len();
+        let update = Update {
+            position,
+            table,
+            filter,
+            change,
+        };
+        match update_lines(self.lines, used, update) {
+            None => Err(BookFault::NoRoom),
+            Some(end) => {
+                self.used = end;
+                Ok(end)
+            }
+        }
+    }
+
     // Ends a transaction, word 1 for commit and 0 for abort, and answers the lines now in use.
     pub fn decide(&mut self, number: u32, word: u8) -> Result<usize, BookFault>
-        ensures { λ r. ⌜ Called (C·Condition .meaning) (decided number word) (now (self .entry)) (now (self .exit)) r ⌝ }
+        ensures { λ r. ⌜ Performed (C·Condition .meaning) (decided number word) (Decides number (eqb word 1)) (now (self .entry)) (now (self .exit)) r ⌝ }
     {
         check_word(word)?;
         let position = self.position(number)?;
         let used = self.len();
-        let step = Deciding {
+        let deciding = Deciding {
             position,
             commits: word == 1,
         };
-        let left = compact(self.lines, used, &step);
+        let left = compact(self.lines, used, &deciding);
         self.used = left;
         self.pending.remove(number);
         Ok(left)
@@ -173,5 +237,16 @@ impl<'a, C: Condition> Book<'a, C> {
         self.check_choice(choice)?;
         let used = self.len();
         Ok(count_rows(&self.lines[0..used], table, choice))
+    }
+
+    // Whether the transaction can commit and leave no shot without its cue, however the others end.
+    pub fn vote(&self, number: u32) -> Result<Vote, BookFault>
+        ensures { λ r. ⌜ Polled (C·Condition .meaning) number (now (self .entry)) r ⌝ }
+    {
+        let position = self.position(number)?;
+        let used = self.len();
+        let committing = C::always().narrowed(position, true).verdicts();
+        let choices = committing & first_choices(self.pending.choices());
+        Ok(vote_against(orphans(&self.lines[0..used], choices)))
     }
 }

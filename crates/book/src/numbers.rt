@@ -1,6 +1,6 @@
 ghost use mathlib.Core.Path.{_≡_};
 ghost use mathlib.Core.List.{[], _∷_, _++_};
-ghost use Prim.Native.Nat.{ℕ, _^_, _<_};
+ghost use Prim.Native.Nat.{ℕ, _^_, _<_, _≤_};
 ghost use lib.Dec.{leb};
 ghost use lib.ListN.{length};
 ghost use Rattle.conditions.specs.Choices.{positions};
@@ -37,7 +37,8 @@ impl Pending {
 
     // How many choices of endings there are.
     pub(crate) fn choices(&self) -> u8
-        ensures { λ r. ⌜ r ≡ 2 ^ length (held (now (self .entry))) ⌝ }
+        ensures count { λ r. ⌜ r ≡ 2 ^ length (held (now (self .entry))) ⌝ }
+        ensures within { λ r. ⌜ 1 ≤ r ⌝ ∗ ⌜ r ≤ 2 ^ positions ⌝ }
     {
         1u8 << self.count
     }

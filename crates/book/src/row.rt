@@ -6,3 +6,12 @@ pub struct Row {
     pub third: u32,
     pub fourth: u32,
 }
+
+// A field of a row.
+#[derive(Clone, Copy)]
+pub enum Field {
+    First,
+    Second,
+    Third,
+    Fourth,
+}

@@ -3,7 +3,10 @@ ghost use mathlib.Core.List.{List};
 ghost use Prim.Native.Nat.{ℕ, _≤_};
 ghost use lib.ListN.{length, drop};
 ghost use Rattle.std.specs.Joined.{joined};
+ghost use Rattle.book.specs.Filters.{passes-checked};
 ghost use Rattle.book.specs.Lines.{Fact, seen, shown, facts, kept, decided-line};
+ghost use Rattle.book.specs.Writes.{deleted-line};
+use crate::filter::Filter;
 use crate::line::Line;
 use crate::line::LineClone;
 use conditions::Condition;
@@ -43,6 +46,31 @@ pub(crate) impl<C: Condition> Step<C> for Deciding as DecidingStep {
             table: line.table,
             row: line.row,
             condition,
+        })
+    }
+}
+
+// The transaction at a position deletes the rows of a table that pass.
+#[derive(Clone, Copy)]
+pub(crate) struct Deleting {
+    pub(crate) position: u8,
+    pub(crate) table: u8,
+    pub(crate) filter: Filter,
+}
+
+pub(crate) impl<C: Condition> Step<C> for Deleting as DeletingStep {
+    ghost becomes = { λ d. deleted-line (d .position) (d .table) (passes-checked (d .filter)) };
+
+    fn one(&self, line: Line<C>) -> Option<Line<C>>
+        ensures { λ r. ⌜ deleted-line (now (self .entry) .position) (now (self .entry) .table) (passes-checked (now (self .entry) .filter)) (seen (C·Condition .meaning) line) ≡ shown (C·Condition .meaning) r ⌝ }
+    {
+        if line.table != self.table || !self.filter.passes(line.row) {
+            return possible(line);
+        }
+        possible(Line {
+            table: line.table,
+            row: line.row,
+            condition: line.condition.narrowed(self.position, false),
         })
     }
 }

@@ -23,11 +23,11 @@ fn stands_in<C: Condition>(line: &Line<C>, table: u8, choice: u8) -> bool
     line.table == table && line.condition.holds(choice)
 }
 
-// Whether the line shows the row in the table under the choice.
+// Whether the line shows the row in the table under the choice. Most rows differ in their first number.
 fn shows<C: Condition>(line: &Line<C>, table: u8, choice: u8, row: Row) -> bool
     ensures { λ r. ⌜ r ≡ (stands table choice (seen (C·Condition .meaning) (now (line .entry))) && same-row (now (line .entry) .row) row) ⌝ }
 {
-    stands_in(line, table, choice) && same(line.row, row)
+    line.row.first == row.first && stands_in(line, table, choice) && same(line.row, row)
 }
 
 // Whether the table has the row under the choice.

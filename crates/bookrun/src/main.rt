@@ -5,15 +5,13 @@ ghost use Rattle.std.specs.Vec.{made};
 ghost use Rattle.book.specs.Calls.{fresh};
 ghost use Rattle.run.specs.Runs.{records, replies};
 ghost use Rattle.run.specs.Texts.{text-of};
-use book::Book;
 use book::Line;
 use book::LineClone;
 use book::Row;
 use conditions::Condition;
 use conditions::SignedPair;
 use conditions::SignedPairCondition;
-use run::run;
-use run::text;
+use run::report;
 use std::alloc::Global;
 use std::io;
 use std::io::Read;
@@ -45,7 +43,7 @@ fn slurp(rt: &LibcRuntime, page: &mut [u8; LIMIT]) -> io::Result<usize>
 }
 
 // What is printed of a page: a line for each reply of a book of 256 lines whose first number is 1.
-fn report(heap: Global, page: &[u8]) -> io::Result<String>
+fn printed(heap: Global, page: &[u8]) -> io::Result<String>
     ensures { λ r. ⌜ made r (λ t. string-bytes t ≡ text-of (replies (records (now (page .entry))) (fresh 256 1))) ⌝ }
 {
     let row = Row {
@@ -60,14 +58,12 @@ fn report(heap: Global, page: &[u8]) -> io::Result<String>
         condition: SignedPair::always(),
     };
     let mut lines = [blank; LINES];
-    let mut book = Book::make(&mut lines, 1);
-    let replies = run(heap, &mut book, page)?;
-    Ok(text(heap, replies.as_slice())?)
+    report(heap, &mut lines, 1, page)
 }
 
 fn main(rt: LibcRuntime) -> io::Result<()> {
     let mut page = [0u8; LIMIT];
     let n = slurp(&rt, &mut page)?;
-    let text = report(rt.alloc(), &page[0..n])?;
+    let text = printed(rt.alloc(), &page[0..n])?;
     rt.stdout().write_all(text.as_bytes())
 }

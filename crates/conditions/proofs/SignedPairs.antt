@@ -1,14 +1,14 @@
 -- What a signed pair means, for any number of positions.
-use mathlib.Core.Path.{_≡_, sym, _∙_, fun-ext}
+use mathlib.Core.Path.{_≡_, sym, ap, _∙_, fun-ext}
 use mathlib.Core.Bool.{Bool, true, false, cond, not, _&&_, _||_}
 use mathlib.Core.Logic.{_⊎_, inl, inr}
-use Prim.Native.Nat.{ℕ, _+_, _-_, _^_, _<_, _≤_}
+use Prim.Native.Nat.{ℕ, _+_, _-_, _*_, _/_, _%_, _^_, _<_, _≤_}
 use native.Mathlib.Omega.{arith}
 use native.Mathlib.Numerals.{add-one}
 use lib.Dec.{ltb, eqb}
 use lib.Bits.{bitAnd, and-le-r}
 use Rattle.std.specs.Orderings.{Decides}
-use Rattle.std.proofs.shelf.Bits.{pow-pos}
+use Rattle.std.proofs.shelf.Bits.{pow-pos, shr-split, mod-below}
 use Rattle.std.proofs.shelf.Tests.{lt-ltb, and-from, and-parts, both-ways, cases-bool, cases-eq, cases-lt}
 use Rattle.std.proofs.shelf.Ways.{tells, decides-eqb, decides-ltb, decides-like, decides-at, decides-and, decides-not}
 use Rattle.conditions.specs.Choices.{bit, same, source}
@@ -22,6 +22,17 @@ use Rattle.conditions.proofs.Meaning.{is-true, alike, all-decides, nowhere-dec
 pub agreeing-more : (n : ℕ) (s : Bool) (x c : ℕ) → agreeing (n + 1) s x c ≡ (implied (bit n x) (same s (bit n c)) && agreeing n s x c)
 unfolding agreeing
 agreeing-more n s x c = rw (add-one n)
+
+-- positions past the last of the set ask for nothing
+pub agreeing-rest : (k n : ℕ) (s : Bool) (x c : ℕ) → x / 2 ^ k ≡ 0 → k ≤ n → agreeing k s x c ≡ agreeing n s x c
+unfolding agreeing
+agreeing-rest k n s x c none l =
+    alike _ _ (all-decides k _) (all-decides n _)
+    (λ f j m. elim (cases-lt j k) [ inl a ↦ f j a | inr b ↦ rw (bit-past k j x small b) ])
+    (λ f j m. f j (omega arith))
+  where
+    small : x < 2 ^ k
+    small = omega (arith, shr-split x k, ap (λ q. q * 2 ^ k) none, mod-below x (2 ^ k) (pow-pos k))
 
 -- what the sets p and a ask of position j in the choice c
 abbrev asked : ℕ → ℕ → ℕ → ℕ → Bool

@@ -38,6 +38,10 @@ fn masked(set: u8, commits: bool) -> u64
 {
     let mut verdicts = u64::MAX;
     for position in 0..POSITIONS as u8 {
+        // Most sets are small: the rest of this one is empty.
+        if set >> position == 0 {
+            return verdicts;
+        }
         if has(set, position) {
             verdicts &= mask(position, commits);
         }

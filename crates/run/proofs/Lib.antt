@@ -1,3 +1,4 @@
 pub mod Decoding
+pub mod Leaving
 pub mod Relabelling
 pub mod Running

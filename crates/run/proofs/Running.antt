@@ -2,7 +2,7 @@
 use mathlib.Core.Path.{_≡_, refl, sym, ap, _∙_}
 use mathlib.Core.Bool.{Bool, true, false, cond}
 use mathlib.Core.List.{List, [], _∷_, _++_, append-assoc, append-nil}
-use Prim.Native.Nat.{ℕ, zero, suc, _+_, _-_, _<_, _≤_}
+use Prim.Native.Nat.{ℕ, zero, suc, _+_, _-_, _<_, _≤_, max}
 use native.Mathlib.Omega.{arith}
 use lib.Dec.{leb}
 use lib.ListN.{length, getD}
@@ -15,7 +15,7 @@ use Rattle.run.specs.declared.calls.Kind.{Kind}
 use Rattle.run.specs.declared.faults.PageFault.the-variants.{CutShort}
 use Rattle.run.specs.declared.faults.Reply.{Reply}
 use Rattle.run.specs.Records.{kind-of, body-size, call-of, part, of-kind, decoded}
-use Rattle.run.specs.Runs.{Record, record-at, next-of, records-from, records, reply-to, left-by, replies, final}
+use Rattle.run.specs.Runs.{Record, record-at, next-of, records-from, records, reply-to, left-by, replies, final, peak}
 
 module _ (page : List ℕ) (at : ℕ) (h : at < length page) where
   -- a number behind the place, within the page
@@ -69,6 +69,24 @@ ran-more {page} {s₀} {xs} {n} {at} {s} r h =
       behind = omega (arith, r .behind, onward page at h .0);
       within = onward page at h .1;
     }
+
+-- the lines in use are among the most that there will be
+pub peak-now : (rs : List Record) (s : State) → length (s .lines) ≤ peak rs s
+unfolding peak
+peak-now [] s = omega arith
+peak-now (r ∷ rs) s = omega arith
+
+module _ (page : List ℕ) (at n : ℕ) (s : State) (h : at < length page) (behind : n ≤ at) where
+  -- and so are those after a record, and all later ones
+  pub peak-more : (peak (records-from (length page - (n + 1)) page (next-of page (decoded page at))) (left-by s (decoded page at)) ≤ peak (records-from (length page - n) page at) s)
+      × (max (length (s .lines)) (length (left-by s (decoded page at) .lines)) ≤ peak (records-from (length page - n) page at) s)
+  unfolding peak
+  peak-more =
+      let k = length page - (n + 1) in
+      let e : length page - n ≡ suc k = omega arith in
+      let more = ap (λ k. peak (records-from k page at) s) e ∙ ap (λ rs. peak rs s) (records-more page at h k) in
+      let now = peak-now (records-from k page (next-of page (decoded page at))) (left-by s (decoded page at)) in
+      (omega (arith, more), omega (arith, more, now))
 
 module _ {page : List ℕ} {s₀ : State} {xs : List Reply} {n at : ℕ} {s : State} (r : Ran page s₀ xs n at s) (h : length page ≤ at) where
   pub ran-replies : xs ≡ replies (records page) s₀

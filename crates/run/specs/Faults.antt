@@ -7,7 +7,7 @@ use Rattle.book.specs.Faults.{Refusal, refusal}
 use Rattle.run.specs.declared.faults.PageFault.{PageFault}
 use Rattle.run.specs.declared.faults.PageFault.the-variants.{CutShort, UnknownKind}
 use Rattle.run.specs.declared.faults.RunFault.{RunFault}
-use Rattle.run.specs.declared.faults.RunFault.the-variants.{Page, Book}
+use Rattle.run.specs.declared.faults.RunFault.the-variants.{OnPage, InBook}
 use Rattle.run.specs.declared.faults.At.{At}
 
 abbrev pub page-refusal : PageFault → Refusal
@@ -19,8 +19,8 @@ abbrev pub located-refusal : ℕ → ℕ → Refusal → Refusal
 located-refusal place kind r = record { number = r .number; carries = place ∷ (kind ∷ r .carries) }
 
 abbrev pub run-refusal : RunFault → Refusal
-run-refusal (Page e) = located-refusal (e .place) (e .kind) (page-refusal (e .fault))
-run-refusal (Book e) = located-refusal (e .place) (e .kind) (refusal (e .fault))
+run-refusal (OnPage e) = located-refusal (e .place) (e .kind) (page-refusal (e .fault))
+run-refusal (InBook e) = located-refusal (e .place) (e .kind) (refusal (e .fault))
 
 -- a fault, with the place and the kind of its record
 abbrev pub located : {A F : Type 0} → ℕ → ℕ → Result A F → Result A (At F)

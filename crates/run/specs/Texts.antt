@@ -6,15 +6,22 @@ use Rattle.std.specs.Joined.{joined}
 use Rattle.std.specs.Written.{decimal}
 use Rattle.std.specs.declared.result.Result.{Result}
 use Rattle.std.specs.declared.result.Result.the-variants.{Ok, Err}
+use Rattle.book.specs.declared.vote.Vote.{Vote}
+use Rattle.book.specs.declared.vote.Vote.the-variants.{Yes, No}
 use Rattle.run.specs.declared.calls.Answer.{Answer}
-use Rattle.run.specs.declared.calls.Answer.the-variants.{Opened, Lines, Rows}
+use Rattle.run.specs.declared.calls.Answer.the-variants.{Opened, Lines, Voted, Rows}
 use Rattle.run.specs.declared.faults.RunFault.{RunFault}
 use Rattle.run.specs.declared.faults.Reply.{Reply}
 use Rattle.run.specs.Faults.{run-refusal}
 
+abbrev pub vote-text : Vote → List ℕ
+vote-text Yes = codes "yes"
+vote-text (No choice) = codes "no " ++ decimal choice
+
 abbrev pub answer-text : Answer → List ℕ
 answer-text (Opened number) = decimal number
 answer-text (Lines count) = decimal count
+answer-text (Voted vote) = vote-text vote
 answer-text (Rows count) = decimal count
 
 abbrev pub outcome-text : Result Answer RunFault → List ℕ

@@ -1,21 +1,48 @@
 ghost use mathlib.Core.Path.{_≡_};
 ghost use Rattle.run.specs.Records.{kind-of, body-size};
+use book::RawChange;
+use book::RawFilter;
 use book::Row;
 
 // A call of a book, with any arguments.
 #[derive(Clone, Copy)]
 pub enum Call {
     Open,
-    Insert { number: u32, table: u8, row: Row },
-    Decide { number: u32, word: u8 },
-    Count { table: u8, choice: u8 },
+    Insert {
+        number: u32,
+        table: u8,
+        row: Row,
+    },
+    Delete {
+        number: u32,
+        table: u8,
+        filter: RawFilter,
+    },
+    Update {
+        number: u32,
+        table: u8,
+        filter: RawFilter,
+        change: RawChange,
+    },
+    Decide {
+        number: u32,
+        word: u8,
+    },
+    Vote {
+        number: u32,
+    },
+    Count {
+        table: u8,
+        choice: u8,
+    },
 }
 
-// What a call answers: the number given, the lines now in use, or how many rows there are.
+// What a call answers: the number given, the lines now in use, a vote, or how many rows there are.
 #[derive(Clone, Copy)]
 pub enum Answer {
     Opened(u32),
     Lines(usize),
+    Voted(book::Vote),
     Rows(usize),
 }
 
@@ -24,7 +51,10 @@ pub enum Answer {
 pub enum Kind {
     OpenKind,
     InsertKind,
+    DeleteKind,
+    UpdateKind,
     DecideKind,
+    VoteKind,
     CountKind,
 }
 
@@ -35,7 +65,10 @@ impl Kind {
         match byte {
             1 => Some(Kind::OpenKind),
             2 => Some(Kind::InsertKind),
+            3 => Some(Kind::DeleteKind),
+            4 => Some(Kind::UpdateKind),
             5 => Some(Kind::DecideKind),
+            6 => Some(Kind::VoteKind),
             7 => Some(Kind::CountKind),
             _ => None,
         }
@@ -48,7 +81,10 @@ impl Kind {
         match self {
             Kind::OpenKind => 0,
             Kind::InsertKind => 21,
+            Kind::DeleteKind => 14,
+            Kind::UpdateKind => 20,
             Kind::DecideKind => 5,
+            Kind::VoteKind => 4,
             Kind::CountKind => 2,
         }
     }

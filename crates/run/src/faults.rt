@@ -1,5 +1,5 @@
 ghost use mathlib.Core.Path.{_≡_};
-ghost use Rattle.run.specs.declared.faults.RunFault.the-variants.{Page, Book};
+ghost use Rattle.run.specs.declared.faults.RunFault.the-variants.{OnPage, InBook};
 ghost use Rattle.run.specs.Faults.{page-refusal, run-refusal, located};
 use crate::calls::Answer;
 use book::BookFault;
@@ -22,8 +22,8 @@ pub struct At<F> {
 // Why a record was refused.
 #[derive(Clone, Copy)]
 pub enum RunFault {
-    Page(At<PageFault>),
-    Book(At<BookFault>),
+    OnPage(At<PageFault>),
+    InBook(At<BookFault>),
 }
 
 #[derive(Clone, Copy)]
@@ -34,18 +34,18 @@ pub struct Reply {
 }
 
 pub impl From<At<PageFault>> for RunFault as RunFromPage {
-    ghost converts = { λ e r. r ≡ Page e };
+    ghost converts = { λ e r. r ≡ OnPage e };
 
     fn from(e: At<PageFault>) -> RunFault {
-        RunFault::Page(e)
+        RunFault::OnPage(e)
     }
 }
 
 pub impl From<At<BookFault>> for RunFault as RunFromBook {
-    ghost converts = { λ e r. r ≡ Book e };
+    ghost converts = { λ e r. r ≡ InBook e };
 
     fn from(e: At<BookFault>) -> RunFault {
-        RunFault::Book(e)
+        RunFault::InBook(e)
     }
 }
 
@@ -75,8 +75,8 @@ impl RunFault {
         ensures { λ r. ⌜ r ≡ run-refusal self .number ⌝ }
     {
         match self {
-            RunFault::Page(e) => e.fault.number(),
-            RunFault::Book(e) => e.fault.number(),
+            RunFault::OnPage(e) => e.fault.number(),
+            RunFault::InBook(e) => e.fault.number(),
         }
     }
 }

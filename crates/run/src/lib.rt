@@ -19,5 +19,7 @@ pub use faults::RunFromBook;
 pub use faults::RunFromPage;
 pub use page::run;
 pub use performing::perform;
+pub use printing::AnswerDisplay;
+pub use printing::report;
 pub use printing::text;
 pub use records::decode;

@@ -3,9 +3,9 @@ ghost use Prim.Native.Nat.{ℕ, _<_};
 ghost use lib.ListN.{length};
 ghost use Rattle.std.specs.Of.Vec.{vec-items};
 ghost use Rattle.std.specs.Results.{Cases};
-ghost use Rattle.book.specs.Books.{state, Same-memory};
+ghost use Rattle.book.specs.Books.{state};
 ghost use Rattle.run.specs.Records.{decoded};
-ghost use Rattle.run.specs.Runs.{outcome-of, left-by, record-at, next-of, records, reply-to, replies, final};
+ghost use Rattle.run.specs.Runs.{outcome-of, record-at, next-of, reply-to, Taken, Paged};
 use crate::calls::Answer;
 use crate::calls::Call;
 use crate::faults::PageFault;
@@ -29,8 +29,7 @@ fn outcome<C: Condition>(
     read: Result<(Call, usize), PageFault>,
 ) -> Result<Answer, RunFault>
     ensures told { λ r. ⌜ r ≡ outcome-of place kind read (state (C·Condition .meaning) (now (book .entry))) ⌝ }
-    ensures leaves { λ _. ⌜ state (C·Condition .meaning) (now (book .exit)) ≡ left-by (state (C·Condition .meaning) (now (book .entry))) read ⌝ }
-    ensures lender { λ _. ⌜ Same-memory (C·Condition .meaning) (now (book .entry)) (now (book .exit)) ⌝ }
+    ensures taken { λ _. ⌜ Taken (C·Condition .meaning) read (now (book .entry)) (now (book .exit)) ⌝ }
 {
     let (call, _) = locate(place, kind, read)?;
     let answer = perform(book, call);
@@ -42,8 +41,7 @@ fn one<C: Condition>(book: &mut Book<C>, page: &[u8], at: usize) -> (Reply, usiz
     requires { ⌜ at < length (now page) ⌝ }
     ensures reply { λ r. ⌜ r .0 ≡ reply-to (record-at (now (page .entry)) at) (state (C·Condition .meaning) (now (book .entry))) ⌝ }
     ensures next { λ r. ⌜ r .1 ≡ next-of (now (page .entry)) (decoded (now (page .entry)) at) ⌝ }
-    ensures leaves { λ _. ⌜ state (C·Condition .meaning) (now (book .exit)) ≡ left-by (state (C·Condition .meaning) (now (book .entry))) (decoded (now (page .entry)) at) ⌝ }
-    ensures lender { λ _. ⌜ Same-memory (C·Condition .meaning) (now (book .entry)) (now (book .exit)) ⌝ }
+    ensures taken { λ _. ⌜ Taken (C·Condition .meaning) (decoded (now (page .entry)) at) (now (book .entry)) (now (book .exit)) ⌝ }
 {
     let kind = page[at];
     let read = decode(page, at);
@@ -66,9 +64,7 @@ pub fn run<C: Condition>(
     book: &mut Book<C>,
     page: &[u8],
 ) -> Result<Vec<Reply>, AllocError>
-    ensures replies { λ r. ⌜ Cases r (λ v. vec-items v ≡ replies (records (now (page .entry))) (state (C·Condition .meaning) (now (book .entry)))) (λ _. now (book .exit) ≡ now (book .entry)) ⌝ }
-    ensures leaves { λ r. ⌜ Cases r (λ _. state (C·Condition .meaning) (now (book .exit)) ≡ final (records (now (page .entry))) (state (C·Condition .meaning) (now (book .entry)))) (λ _. now (book .exit) ≡ now (book .entry)) ⌝ }
-    ensures lender { λ _. ⌜ Same-memory (C·Condition .meaning) (now (book .entry)) (now (book .exit)) ⌝ }
+    ensures { λ r. ⌜ Cases r (λ v. Paged (C·Condition .meaning) (now (page .entry)) (now (book .entry)) (now (book .exit)) (vec-items v)) (λ _. now (book .exit) ≡ now (book .entry)) ⌝ }
 {
     let mut replies = Vec::with_capacity(heap, page.len())?;
     let mut at = 0;

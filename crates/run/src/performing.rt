@@ -20,8 +20,29 @@ pub fn perform<C: Condition>(book: &mut Book<C>, call: Call) -> Result<Answer, B
             Ok(lines) => Ok(Answer::Lines(lines)),
             Err(e) => Err(e),
         },
+        Call::Delete {
+            number,
+            table,
+            filter,
+        } => match book.delete(number, table, filter) {
+            Ok(lines) => Ok(Answer::Lines(lines)),
+            Err(e) => Err(e),
+        },
+        Call::Update {
+            number,
+            table,
+            filter,
+            change,
+        } => match book.update(number, table, filter, change) {
+            Ok(lines) => Ok(Answer::Lines(lines)),
+            Err(e) => Err(e),
+        },
         Call::Decide { number, word } => match book.decide(number, word) {
             Ok(lines) => Ok(Answer::Lines(lines)),
+            Err(e) => Err(e),
+        },
+        Call::Vote { number } => match book.vote(number) {
+            Ok(vote) => Ok(Answer::Voted(vote)),
             Err(e) => Err(e),
         },
         Call::Count { table, choice } => match book.count(table, choice) {

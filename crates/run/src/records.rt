@@ -1,10 +1,12 @@
 ghost use mathlib.Core.Path.{_≡_};
 ghost use Prim.Native.Nat.{ℕ, _+_, _<_, _≤_};
 ghost use lib.ListN.{length};
-ghost use Rattle.run.specs.Records.{number-at, row-at, body-size, call-of, Bodied, decoded};
+ghost use Rattle.run.specs.Records.{number-at, row-at, filter-at, change-at, body-size, call-of, Bodied, decoded};
 use crate::calls::Call;
 use crate::calls::Kind;
 use crate::faults::PageFault;
+use book::RawChange;
+use book::RawFilter;
 use book::Row;
 
 // The number of four bytes at a place, the highest first.
@@ -27,6 +29,28 @@ fn row(body: &[u8], at: usize) -> Row
     }
 }
 
+fn filter(body: &[u8], at: usize) -> RawFilter
+    requires { ⌜ at + 9 ≤ length (now body) ⌝ ∗ ⌜ length (now body) ≤ 21 ⌝ }
+    ensures { λ r. ⌜ r ≡ filter-at (now (body .entry)) at ⌝ }
+{
+    RawFilter {
+        field: body[at],
+        low: number(body, at + 1),
+        high: number(body, at + 5),
+    }
+}
+
+fn change(body: &[u8], at: usize) -> RawChange
+    requires { ⌜ at + 6 ≤ length (now body) ⌝ ∗ ⌜ length (now body) ≤ 21 ⌝ }
+    ensures { λ r. ⌜ r ≡ change-at (now (body .entry)) at ⌝ }
+{
+    RawChange {
+        field: body[at],
+        operation: body[at + 1],
+        amount: number(body, at + 2),
+    }
+}
+
 fn read(kind: Kind, body: &[u8]) -> Call
     requires { ⌜ length (now body) ≡ body-size kind ⌝ }
     ensures { λ r. ⌜ r ≡ call-of kind (now (body .entry)) ⌝ }
@@ -38,9 +62,23 @@ fn read(kind: Kind, body: &[u8]) -> Call
             table: body[4],
             row: row(body, 5),
         },
+        Kind::DeleteKind => Call::Delete {
+            number: number(body, 0),
+            table: body[4],
+            filter: filter(body, 5),
+        },
+        Kind::UpdateKind => Call::Update {
+            number: number(body, 0),
+            table: body[4],
+            filter: filter(body, 5),
+            change: change(body, 14),
+        },
         Kind::DecideKind => Call::Decide {
             number: number(body, 0),
             word: body[4],
+        },
+        Kind::VoteKind => Call::Vote {
+            number: number(body, 0),
         },
         Kind::CountKind => Call::Count {
             table: body[0],

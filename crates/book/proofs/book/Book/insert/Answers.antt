@@ -15,27 +15,28 @@ use Rattle.book.specs.Lines.{facts, inserted-line}
 use Rattle.book.specs.Calls.{position}
 use Rattle.book.specs.Books.{state}
 use Rattle.book.proofs.Grounds.{check-passed, check-failed, check-value}
-use Rattle.book.proofs.Calling.{refused, done, facts-put}
+use Rattle.book.proofs.Meanings.{position-below, insert-writes}
+use Rattle.book.proofs.Calling.{stopped, performed, held-few, facts-put}
 use Rattle.conditions.proofs.Meaning.{half-somewhere}
 use Rattle.book.proofs.book.Book.insert.Needs as need
 
 pub returns-in-Break-position : need.returns-in-Break-position
 returns-in-Break-position g c =
     let p = err-from-errBy (c .from-residual .result) (c .from-residual .ensures .1) in
-    rw (p .1, p .2) (refused (g .C·Condition .meaning) refl (inl (check-failed _ _ (c .in-Break-position .ensures tt))))
+    rw (p .1, p .2) (stopped (g .C·Condition .meaning) refl (inl (check-failed _ _ (c .in-Break-position .ensures tt))))
 
 pub returns-in-Break-check-table : need.returns-in-Break-check-table
 returns-in-Break-check-table g c =
     let p = err-from-errBy (c .from-residual-in-Break-check-table .result) (c .from-residual-in-Break-check-table .ensures .1) in
     rw (p .1, p .2)
-    (refused (g .C·Condition .meaning) refl
+    (stopped (g .C·Condition .meaning) refl
     (inr (check-passed _ _ (c .in-Continue-position .ensures tt), inl (check-failed _ _ (c .in-Break-check-table .ensures tt)))))
 
 pub returns-then-used-self : need.returns-then-used-self
 returns-then-used-self g c =
     let s = state (g .C·Condition .meaning) (c .args .self .now) in
     let new = inserted-line (position (c .args .number) s) (c .args .table) (c .args .row) in
-    refused (g .C·Condition .meaning) refl
+    stopped (g .C·Condition .meaning) refl
     (inr (
       check-passed _ _ (c .in-Continue-position .ensures tt),
       inr (
@@ -61,7 +62,7 @@ returns g c =
     let lines : facts m (at + 1) (c .put .last .lines) ≡ s .lines ++ new ∷ [] =
     ap (facts m (at + 1)) (c .put .ensures) ∙ facts-put m at ls _ lt
     ∙ (λ t. c .len-used .ensures .first t ++ (record { table = c .args .table; row = c .args .row; meaning = means t }) ∷ []) in
-    done m (at + 1)
+    performed m (at + 1)
     (check-passed _ _ (c .in-Continue-position .ensures tt), (check-passed _ _ (c .in-Continue-check-table .ensures tt), (le-ltb _ _ (omega arith), tt)))
     (omega arith)
     (λ t. record {
@@ -74,3 +75,4 @@ returns g c =
     (omega (arith, ap length lines)) (ap (drop (at + 1)) (c .put .ensures) ∙ drop-set-lt (at + 1) ls at _ (omega arith))
     (λ h. all-push _ (s .lines) new h (half-somewhere positions (position (c .args .number) s)))
     refl
+    (insert-writes (c .args .number) s (position-below (c .args .number) s (check-passed _ _ (c .in-Continue-position .ensures tt)) (held-few (b .pending))) (c .args .table) (c .args .row))

@@ -11,10 +11,10 @@ pub ghost-result : need.ghost-result
 ghost-result c = search (needs, set-below 8)
 
 pub returns-then-commits : need.returns-then-commits
-returns-then-commits c = rw (c .if-commits .taken) (search (needs, pair-narrowed, bit-set 8))
+returns-then-commits c = search (needs, pair-narrowed, bit-set 8)
 
 pub ghost-result-2 : need.ghost-result-2
 ghost-result-2 c = search (needs, set-below 8)
 
 pub returns : need.returns
-returns c = rw (c .if-commits .left) (search (needs, pair-narrowed, bit-set 8))
+returns c = search (needs, pair-narrowed, bit-set 8)
