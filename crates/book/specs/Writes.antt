@@ -63,9 +63,6 @@ module _ (u : Rewrite) where
   abbrev pub extra-line : Fact → List Fact
   extra-line f = cond (rewritten f) (cond (impossible (original f)) [] (kept (copy f))) []
 
-  abbrev pub added-line : Fact → List Fact
-  added-line f = cond (impossible f) [] (extra-line f)
-
   unfoldable pub split-lines : List Fact → List Fact
   split-lines fs = map stay-line fs ++ joined extra-line fs
 

@@ -26,7 +26,7 @@ fn is_cue<C: Condition>(line: &Line<C>, cue: u32) -> bool
 }
 
 // Those of the choices in which no line here has the cue of the music, one bit for each.
-// The search goes back from the last line, and ends where no choice is left.
+// It looks from the last line back, and stops where no choice is left.
 fn uncued<C: Condition>(lines: &[Line<C>], cue: u32, choices: u64) -> u64
     ensures { λ r. ⌜ ((c : ℕ) → c < 2 ^ positions → bit c r ≡ (bit c choices && not (has-cue cue (rows 2 c (map (seen (C·Condition .meaning)) (now (lines .entry))))))) ⌝ }
 {
@@ -44,7 +44,7 @@ fn uncued<C: Condition>(lines: &[Line<C>], cue: u32, choices: u64) -> u64
 }
 
 // Those of the choices in which some shot has no cue. A shot matters only where it holds and no other was found.
-// Its cue mostly stands a little before it, so the search begins there.
+// Its cue mostly stands a little before it, so the lines there are looked at first.
 pub(crate) fn orphans<C: Condition>(lines: &[Line<C>], choices: u64) -> u64
     ensures { λ r. ⌜ ((c : ℕ) → c < 2 ^ positions → bit c r ≡ (bit c choices && orphaned c (map (seen (C·Condition .meaning)) (now (lines .entry))))) ⌝ }
 {
