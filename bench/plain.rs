@@ -1,6 +1,6 @@
 //! The change book as a plain Rust program: what `bookrun` is measured against.
 //!
-//! It does the same in the same steps, so that what is measured is the toolchain and not
+//! It does the same in nearly the same steps, so that what is measured is the toolchain and not
 //! another algorithm: a condition is a signed pair of sets behind the same functions, the
 //! lines stand in a fixed array that is scanned from end to end, an update counts before
 //! it writes, and a vote looks at all choices at once in 64-bit verdicts. With
