@@ -1,5 +1,7 @@
 // The change book: a show's tables while some changes are neither committed nor aborted.
 
+#![tactic(auto)]
+
 mod book;
 mod change;
 mod checks;

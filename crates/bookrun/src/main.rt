@@ -1,3 +1,5 @@
+#![tactic(auto)]
+
 ghost use Rattle.std.specs.Prelude.{◌≡◌, ℕ, ◌≤◌, IfOk, string_bytes};
 ghost use Rattle.book.specs.Calls.{fresh};
 ghost use Rattle.run.specs.Runs.{records, replies};

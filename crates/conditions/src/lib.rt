@@ -1,5 +1,7 @@
 // Conditions: when a line of the book holds. A condition says of each choice of endings whether it does.
 
+#![tactic(auto)]
+
 mod choices;
 mod condition;
 mod pair;

@@ -1,5 +1,7 @@
 // Whole pages, run on books of both kinds of condition, and what they must print.
 
+#![tactic(auto)]
+
 #[cfg(test)]
 mod tests {
     use book::{Line, Row};

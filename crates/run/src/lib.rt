@@ -1,5 +1,7 @@
 // Pages of call records, run on a book.
 
+#![tactic(auto)]
+
 mod calls;
 mod faults;
 mod page;

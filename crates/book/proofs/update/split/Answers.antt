@@ -26,14 +26,14 @@ room g c =
     let adds = copy_added (rewrite c.args.update) (seen m c.index-lines-at.result) c.if-touches.ensures c.if-survives.ensures false c.if-survives-2.ensures in
     omega (arith, splitting_room c.loop-at.invariant c.loop-at-test.true c.index-lines-at.is _ adds)
 
-pub offset-bounds-lines-end : goal.offset-bounds-lines-end
-offset-bounds-lines-end g c = let lt = room g c in search rules
+pub offset_bounds-lines-end : goal.offset_bounds-lines-end
+offset_bounds-lines-end g c = let lt = room g c in search rules
 
 pub bounds-lines-end : goal.bounds-lines-end
 bounds-lines-end g c = let lt = room g c in search rules
 
-pub overflow-add-end : goal.overflow-add-end
-overflow-add-end g c = let lt = room g c in search rules
+pub overflow_add-end : goal.overflow_add-end
+overflow_add-end g c = let lt = room g c in search rules
 
 pub loop-at-preserved : goal.loop-at-preserved
 loop-at-preserved g c =

@@ -8,8 +8,8 @@ use Rattle.book.proofs.Dropping.{drop_further}
 use Rattle.book.proofs.Updating.{joined_kept, length_updated}
 use Rattle.book.proofs.update.update_lines.Goals as goal
 
-pub returns-then-not-has-room : goal.returns-then-not-has-room
-returns-then-not-has-room g c = (leb-false _ _ (sym c.if-not-has-room.ensures), refl)
+pub returns-then-not-has_room : goal.returns-then-not-has_room
+returns-then-not-has_room g c = (leb-false _ _ (sym c.if-not-has_room.ensures), refl)
 
 pub split-requires : goal.split-requires
 split-requires g c =
@@ -21,7 +21,7 @@ split-requires g c =
     let e = ap (λ gs. length (flat_map (extra_line (rewrite c.args.update)) gs)) d.lines in
     let j = ap length (joined_kept (rewrite c.args.update) fs) in
     let k = facts_count m n c.clear-left.new.lines within ∙ ap length d.lines in
-    (within, omega (arith, e, j, k, c.count-possible-left.ensures.is, length_updated (rewrite c.args.update) fs, leb-true _ _ (sym c.if-not-has-room.ensures)))
+    (within, omega (arith, e, j, k, c.count_possible-left.ensures.is, length_updated (rewrite c.args.update) fs, leb-true _ _ (sym c.if-not-has_room.ensures)))
 
 pub returns : goal.returns
 unfolding updated_lines

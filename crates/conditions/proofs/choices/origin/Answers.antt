@@ -5,8 +5,8 @@ use Rattle.conditions.specs.Choices.{positions, source}
 use Rattle.conditions.proofs.Sources.{source_below}
 use Rattle.conditions.proofs.choices.origin.Goals as goal
 
-pub overflow-mul-high : goal.overflow-mul-high
-overflow-mul-high c = search (rules, one_shl, pow_below)
+pub overflow_mul-high : goal.overflow_mul-high
+overflow_mul-high c = search (rules, one_shl, pow_below)
 
 promised : (i : ℕ) (s : Bool) (c r : ℕ) → i < positions → r ≡ source positions i s c → record { is : r ≡ source positions i s c; among : r < 2 ^ positions }
 promised i s c r h e = record { is = e; among = rw e (source_below positions i s c h) }

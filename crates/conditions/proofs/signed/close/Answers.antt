@@ -4,8 +4,8 @@ use Rattle.std.proofs.lemmas.Nat.{one_shl, pow_below}
 use Rattle.conditions.proofs.Sources.{closed_bit, closed_below}
 use Rattle.conditions.proofs.signed.close.Goals as goal
 
-pub overflow-mul-result : goal.overflow-mul-result
-overflow-mul-result c = search (rules, one_shl, pow_below)
+pub overflow_mul-result : goal.overflow_mul-result
+overflow_mul-result c = search (rules, one_shl, pow_below)
 
 pub returns : goal.returns
 returns c =

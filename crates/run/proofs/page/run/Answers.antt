@@ -9,8 +9,8 @@ pub loop-at-init : goal.loop-at-init
 loop-at-init g c =
     let page = c.args.page.now in
     let s = state g.C.Condition.meaning c.args.book.now in
-    let h = c.in-ok-replies.ensures in
-    let e : length page - vec_len c.in-ok-replies.replies ≡ length page = omega (arith, h.len) in
+    let h = c.in_ok-replies.ensures in
+    let e : length page - vec_len c.in_ok-replies.replies ≡ length page = omega (arith, h.len) in
     (rw (h.items, h.len) (ran_none page s), h.capacity, refl, (λ p. p), omega (arith, ap (λ k. peak (records_from k page 0) s) e), refl)
 
 pub loop-at-smaller : goal.loop-at-smaller
@@ -28,11 +28,11 @@ loop-at-preserved g c =
     let top = peak (records page) (state m c.args.book.now) in
     let p = peak_more page c.loop-at.at (vec_len c.loop-at.replies) s c.loop-at-test.true i.0.behind in
     let after = ap (λ s. length s.lines) t.leaves in (
-      rw (c.push-reserved.ensures.items, c.push-reserved.ensures.len, c.one-next.ensures.next, c.one-next.ensures.reply, t.leaves) (ran_more i.0 c.loop-at-test.true),
-      omega (arith, c.push-reserved.ensures.capacity, i.1),
+      rw (c.push_reserved.ensures.items, c.push_reserved.ensures.len, c.one-next.ensures.next, c.one-next.ensures.reply, t.leaves) (ran_more i.0 c.loop-at-test.true),
+      omega (arith, c.push_reserved.ensures.capacity, i.1),
       t.lender ∙ i.2,
       (λ h. t.possible (i.3 h)),
-      rw (c.push-reserved.ensures.len, c.one-next.ensures.next, t.leaves) (omega (arith, p.0, i.4)),
+      rw (c.push_reserved.ensures.len, c.one-next.ensures.next, t.leaves) (omega (arith, p.0, i.4)),
       drop_further (reach m c.loop-at.book c.one-next.new.book) top _ _ (omega (arith, p.1, i.4, after)) t.beyond ∙ i.5,
     )
 

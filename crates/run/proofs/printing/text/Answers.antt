@@ -14,7 +14,7 @@ text_more rs i d bs h e = ap (λ bs. bs ++ line_of (get_or rs i d)) e ∙ flat_m
 
 pub loop-reply-preserved : goal.loop-reply-preserved
 unfolding blank
-loop-reply-preserved c = c.in-ok-put.ensures ∙ text_more c.args.replies.now c.loop-reply.reply-index blank _ c.loop-reply-test.true c.loop-reply.invariant
+loop-reply-preserved c = c.in_ok-put.ensures ∙ text_more c.args.replies.now c.loop-reply.reply-index blank _ c.loop-reply-test.true c.loop-reply.invariant
 
 pub returns : goal.returns
 returns c = c.loop-reply.invariant ∙ ap text_of (take_all c.loop-reply.reply-index c.args.replies.now (omega arith))

@@ -11,17 +11,17 @@ use Rattle.book.proofs.Calling.{stopped, performed, held_few, facts_count}
 use Rattle.book.proofs.Possibly.{decided_possible}
 use Rattle.book.proofs.book.Book.decide.Goals as goal
 
-pub returns-in-err-check-word : goal.returns-in-err-check-word
-returns-in-err-check-word g c =
-    let p = err_from_is_err_and c.from-residual.result c.from-residual.ensures.1 in
-    rw (p.1, p.2) (stopped g.C.Condition.meaning refl (inl (check_failed _ _ c.in-err-check-word.ensures)))
+pub returns-in_err-check_word : goal.returns-in_err-check_word
+returns-in_err-check_word g c =
+    let p = err_from_is_err_and c.from_residual.result c.from_residual.ensures.1 in
+    rw (p.1, p.2) (stopped g.C.Condition.meaning refl (inl (check_failed _ _ c.in_err-check_word.ensures)))
 
-pub returns-in-err-position : goal.returns-in-err-position
-returns-in-err-position g c =
-    let p = err_from_is_err_and c.from-residual-in-err-position.result c.from-residual-in-err-position.ensures.1 in
+pub returns-in_err-position : goal.returns-in_err-position
+returns-in_err-position g c =
+    let p = err_from_is_err_and c.from_residual-in_err-position.result c.from_residual-in_err-position.ensures.1 in
     rw (p.1, p.2)
     (stopped g.C.Condition.meaning refl
-    (inr (check_passed _ _ c.in-ok-check-word.ensures, inl (check_failed _ _ c.in-err-position.ensures))))
+    (inr (check_passed _ _ c.in_ok-check_word.ensures, inl (check_failed _ _ c.in_err-position.ensures))))
 
 pub returns : goal.returns
 returns g c =
@@ -35,13 +35,13 @@ returns g c =
     let long : length ys ≡ length b.lines.now = omega arith in
     let leaves : facts m n ys ≡ lines_decided c.args.number c.args.word s =
     d.lines
-    ∙ ap (flat_map (decided_line c.in-ok-position.position (eqb c.args.word 1))) c.len-used.ensures.first
-    ∙ ap (λ i. flat_map (decided_line i (eqb c.args.word 1)) s.lines) (check_value _ _ c.in-ok-position.ensures) in
+    ∙ ap (flat_map (decided_line c.in_ok-position.position (eqb c.args.word 1))) c.len-used.ensures.first
+    ∙ ap (λ i. flat_map (decided_line i (eqb c.args.word 1)) s.lines) (check_value _ _ c.in_ok-position.ensures) in
     performed m at
-    (check_passed _ _ c.in-ok-check-word.ensures, (check_passed _ _ c.in-ok-position.ensures, tt))
+    (check_passed _ _ c.in_ok-check_word.ensures, (check_passed _ _ c.in_ok-position.ensures, tt))
     (facts_count m n ys (omega arith) ∙ ap length leaves)
     (λ t. record { capacity = long t; first = b.first; next = b.next; pending = c.remove.ensures t; lines = leaves t })
     (omega (arith, c.len-used.ensures.count)) d.beyond
     (λ _. decided_possible (position c.args.number s) (eqb c.args.word 1) s.lines)
     refl
-    (decide_decides c.args.number s (position_below c.args.number s (check_passed _ _ c.in-ok-position.ensures) (held_few b.pending)) (eqb c.args.word 1) (others c.args.number s.pending))
+    (decide_decides c.args.number s (position_below c.args.number s (check_passed _ _ c.in_ok-position.ensures) (held_few b.pending)) (eqb c.args.word 1) (others c.args.number s.pending))

@@ -13,27 +13,27 @@ use Rattle.book.proofs.Calling.{stopped, performed, facts_count, held_few}
 use Rattle.book.proofs.Possibly.{deleted_possible}
 use Rattle.book.proofs.book.Book.delete.Goals as goal
 
-pub returns-in-err-position : goal.returns-in-err-position
-returns-in-err-position g c =
-    let p = err_from_is_err_and c.from-residual.result c.from-residual.ensures.1 in
-    rw (p.1, p.2) (stopped g.C.Condition.meaning refl (inl (check_failed _ _ c.in-err-position.ensures)))
+pub returns-in_err-position : goal.returns-in_err-position
+returns-in_err-position g c =
+    let p = err_from_is_err_and c.from_residual.result c.from_residual.ensures.1 in
+    rw (p.1, p.2) (stopped g.C.Condition.meaning refl (inl (check_failed _ _ c.in_err-position.ensures)))
 
-pub returns-in-err-check-table : goal.returns-in-err-check-table
-returns-in-err-check-table g c =
-    let p = err_from_is_err_and c.from-residual-in-err-check-table.result c.from-residual-in-err-check-table.ensures.1 in
+pub returns-in_err-check_table : goal.returns-in_err-check_table
+returns-in_err-check_table g c =
+    let p = err_from_is_err_and c.from_residual-in_err-check_table.result c.from_residual-in_err-check_table.ensures.1 in
     rw (p.1, p.2)
     (stopped g.C.Condition.meaning refl
-    (inr (check_passed _ _ c.in-ok-position.ensures, inl (check_failed _ _ c.in-err-check-table.ensures))))
+    (inr (check_passed _ _ c.in_ok-position.ensures, inl (check_failed _ _ c.in_err-check_table.ensures))))
 
-pub returns-in-err-filter : goal.returns-in-err-filter
-returns-in-err-filter g c =
-    let p = err_from_is_err_and c.from-residual-in-err-filter.result c.from-residual-in-err-filter.ensures.1 in
-    let t = c.in-err-filter.ensures in
+pub returns-in_err-filter : goal.returns-in_err-filter
+returns-in_err-filter g c =
+    let p = err_from_is_err_and c.from_residual-in_err-filter.result c.from_residual-in_err-filter.ensures.1 in
+    let t = c.in_err-filter.ensures in
     rw (p.1, p.2)
     (stopped g.C.Condition.meaning refl
     (inr (
-      check_passed _ _ c.in-ok-position.ensures,
-      inr (check_passed _ _ c.in-ok-check-table.ensures, inl (ap not t.0, sym (ap BadFilter t.1))),
+      check_passed _ _ c.in_ok-position.ensures,
+      inr (check_passed _ _ c.in_ok-check_table.ensures, inl (ap not t.0, sym (ap BadFilter t.1))),
     )))
 
 pub returns : goal.returns
@@ -44,13 +44,13 @@ returns g c =
     let n = c.compact-left.result in
     let ys = c.compact-left.new.lines in
     let d = c.compact-left.ensures in
-    let f = c.in-ok-filter.ensures in
-    let pending = check_passed _ _ c.in-ok-position.ensures in
+    let f = c.in_ok-filter.ensures in
+    let pending = check_passed _ _ c.in_ok-position.ensures in
     let long : length ys ≡ length b.lines.now = omega arith in
     let leaves : facts m n ys ≡ lines_deleted c.args.number c.args.table c.args.filter s =
-    d.lines ∙ (λ t. flat_map (deleted_line (check_value _ _ c.in-ok-position.ensures t) c.args.table (f.1 t)) (c.len-used.ensures.first t)) in
+    d.lines ∙ (λ t. flat_map (deleted_line (check_value _ _ c.in_ok-position.ensures t) c.args.table (f.1 t)) (c.len-used.ensures.first t)) in
     performed m c.len-used.result
-    (pending, (check_passed _ _ c.in-ok-check-table.ensures, (ap not f.0, tt)))
+    (pending, (check_passed _ _ c.in_ok-check_table.ensures, (ap not f.0, tt)))
     (facts_count m n ys (omega arith) ∙ ap length leaves)
     (λ t. record { capacity = long t; first = b.first; next = b.next; pending = s.pending; lines = leaves t })
     (omega (arith, c.len-used.ensures.count)) d.beyond

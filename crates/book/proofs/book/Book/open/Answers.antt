@@ -4,13 +4,13 @@ use Rattle.book.proofs.Grounds.{check_failed}
 use Rattle.book.proofs.Calling.{refused}
 use Rattle.book.proofs.book.Book.open.Goals as goal
 
-pub returns-in-err-check-making : goal.returns-in-err-check-making
-returns-in-err-check-making g c =
-    let p = err_from_is_err_and c.from-residual.result c.from-residual.ensures.1 in
+pub returns-in_err-check_making-in-Some : goal.returns-in_err-check_making-in-Some
+returns-in_err-check_making-in-Some g c =
+    let p = err_from_is_err_and c.from_residual.result c.from_residual.ensures.1 in
     rw (p.1, p.2)
     (refused g.C.Condition.meaning refl
-    (inr (sym c.if-is-full.ensures, inr (ap (λ o. not (is_some o)) c.in-Some.is, inl (check_failed _ _ c.in-err-check-making.ensures)))))
+    (inr (sym c.if-is_full.ensures, inr (ap (λ o. not (is_some o)) c.in-Some.is, inl (check_failed _ _ c.in_err-check_making-in-Some.ensures)))))
 
 pub returns-in-None : goal.returns-in-None
 returns-in-None g c =
-    refused g.C.Condition.meaning refl (inr (sym c.if-is-full.ensures, inl (ap (λ o. not (is_some o)) c.in-None.is, refl)))
+    refused g.C.Condition.meaning refl (inr (sym c.if-is_full.ensures, inl (ap (λ o. not (is_some o)) c.in-None.is, refl)))

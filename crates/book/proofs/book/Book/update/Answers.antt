@@ -12,40 +12,40 @@ use Rattle.book.proofs.Plainly.{update_is_plain, update_leaves_possible}
 use Rattle.book.proofs.Calling.{stopped, performed, facts_count, held_few}
 use Rattle.book.proofs.book.Book.update.Goals as goal
 
-pub returns-in-err-position : goal.returns-in-err-position
-returns-in-err-position g c =
-    let p = err_from_is_err_and c.from-residual.result c.from-residual.ensures.1 in
-    rw (p.1, p.2) (stopped g.C.Condition.meaning refl (inl (check_failed _ _ c.in-err-position.ensures)))
+pub returns-in_err-position : goal.returns-in_err-position
+returns-in_err-position g c =
+    let p = err_from_is_err_and c.from_residual.result c.from_residual.ensures.1 in
+    rw (p.1, p.2) (stopped g.C.Condition.meaning refl (inl (check_failed _ _ c.in_err-position.ensures)))
 
-pub returns-in-err-check-table : goal.returns-in-err-check-table
-returns-in-err-check-table g c =
-    let p = err_from_is_err_and c.from-residual-in-err-check-table.result c.from-residual-in-err-check-table.ensures.1 in
+pub returns-in_err-check_table : goal.returns-in_err-check_table
+returns-in_err-check_table g c =
+    let p = err_from_is_err_and c.from_residual-in_err-check_table.result c.from_residual-in_err-check_table.ensures.1 in
     rw (p.1, p.2)
     (stopped g.C.Condition.meaning refl
-    (inr (check_passed _ _ c.in-ok-position.ensures, inl (check_failed _ _ c.in-err-check-table.ensures))))
+    (inr (check_passed _ _ c.in_ok-position.ensures, inl (check_failed _ _ c.in_err-check_table.ensures))))
 
-pub returns-in-err-filter : goal.returns-in-err-filter
-returns-in-err-filter g c =
-    let p = err_from_is_err_and c.from-residual-in-err-filter.result c.from-residual-in-err-filter.ensures.1 in
-    let t = c.in-err-filter.ensures in
+pub returns-in_err-filter : goal.returns-in_err-filter
+returns-in_err-filter g c =
+    let p = err_from_is_err_and c.from_residual-in_err-filter.result c.from_residual-in_err-filter.ensures.1 in
+    let t = c.in_err-filter.ensures in
     rw (p.1, p.2)
     (stopped g.C.Condition.meaning refl
     (inr (
-      check_passed _ _ c.in-ok-position.ensures,
-      inr (check_passed _ _ c.in-ok-check-table.ensures, inl (ap not t.0, sym (ap BadFilter t.1))),
+      check_passed _ _ c.in_ok-position.ensures,
+      inr (check_passed _ _ c.in_ok-check_table.ensures, inl (ap not t.0, sym (ap BadFilter t.1))),
     )))
 
-pub returns-in-err-change : goal.returns-in-err-change
-returns-in-err-change g c =
-    let p = err_from_is_err_and c.from-residual-in-err-change.result c.from-residual-in-err-change.ensures.1 in
-    let t = c.in-err-change.ensures in
+pub returns-in_err-change : goal.returns-in_err-change
+returns-in_err-change g c =
+    let p = err_from_is_err_and c.from_residual-in_err-change.result c.from_residual-in_err-change.ensures.1 in
+    let t = c.in_err-change.ensures in
     rw (p.1, p.2)
     (stopped g.C.Condition.meaning refl
     (inr (
-      check_passed _ _ c.in-ok-position.ensures,
+      check_passed _ _ c.in_ok-position.ensures,
       inr (
-        check_passed _ _ c.in-ok-check-table.ensures,
-        inr (ap not c.in-ok-filter.ensures.0, inl (ap not t.0, sym (ap BadChange t.1))),
+        check_passed _ _ c.in_ok-check_table.ensures,
+        inr (ap not c.in_ok-filter.ensures.0, inl (ap not t.0, sym (ap BadChange t.1))),
       ),
     )))
 
@@ -54,16 +54,16 @@ returns-in-None g c =
     let m = g.C.Condition.meaning in
     let s = state m c.args.self.now in
     let t = c.in-None.ensures in
-    let f = c.in-ok-filter.ensures in
-    let h = c.in-ok-change.ensures in
+    let f = c.in_ok-filter.ensures in
+    let h = c.in_ok-change.ensures in
     let lines : _ ≡ lines_updated c.args.number c.args.table c.args.filter c.args.change s =
-    λ k. updated_lines (record { position = check_value _ _ c.in-ok-position.ensures k; table = c.args.table; passing = f.1 k; changing = h.1 k }) (c.len-used.ensures.first k) in
+    λ k. updated_lines (record { position = check_value _ _ c.in_ok-position.ensures k; table = c.args.table; passing = f.1 k; changing = h.1 k }) (c.len-used.ensures.first k) in
     rw t.1
     (stopped m refl
     (inr (
-      check_passed _ _ c.in-ok-position.ensures,
+      check_passed _ _ c.in_ok-position.ensures,
       inr (
-        check_passed _ _ c.in-ok-check-table.ensures,
+        check_passed _ _ c.in_ok-check_table.ensures,
         inr (ap not f.0, inr (ap not h.0, inl (lt-ltb _ _ (omega (arith, t.0, ap length lines)), refl))),
       ),
     )))
@@ -74,20 +74,20 @@ returns-in-Some g c =
     let b = c.args.self.now in
     let s = state m b in
     let n = c.in-Some.end in
-    let ys = c.update-lines.new.lines in
+    let ys = c.update_lines.new.lines in
     let t = c.in-Some.ensures in
-    let f = c.in-ok-filter.ensures in
-    let h = c.in-ok-change.ensures in
+    let f = c.in_ok-filter.ensures in
+    let h = c.in_ok-change.ensures in
     let u = rewrite_of c.args.number c.args.table c.args.filter c.args.change s in
-    let pending = check_passed _ _ c.in-ok-position.ensures in
+    let pending = check_passed _ _ c.in_ok-position.ensures in
     let long : length ys ≡ length b.lines.now = omega arith in
     let leaves : facts m n ys ≡ updated_lines u s.lines =
-    t.1 ∙ (λ k. updated_lines (record { position = check_value _ _ c.in-ok-position.ensures k; table = c.args.table; passing = f.1 k; changing = h.1 k }) (c.len-used.ensures.first k)) in
+    t.1 ∙ (λ k. updated_lines (record { position = check_value _ _ c.in_ok-position.ensures k; table = c.args.table; passing = f.1 k; changing = h.1 k }) (c.len-used.ensures.first k)) in
     let count = facts_count m n ys (omega (arith, t.0)) ∙ ap length leaves in
     performed m (max c.len-used.result n) (
       pending,
       (
-        check_passed _ _ c.in-ok-check-table.ensures,
+        check_passed _ _ c.in_ok-check_table.ensures,
         (ap not f.0, (ap not h.0, (le-ltb _ _ (omega (arith, t.0, count)), tt))),
       ),
     )

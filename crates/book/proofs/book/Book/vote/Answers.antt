@@ -18,10 +18,10 @@ use Rattle.book.proofs.Lowest.{vote_says}
 use Rattle.book.proofs.Calling.{answered, unanswered, held_few}
 use Rattle.book.proofs.book.Book.vote.Goals as goal
 
-pub returns-in-err-position : goal.returns-in-err-position
-returns-in-err-position g c =
-    let p = err_from_is_err_and c.from-residual.result c.from-residual.ensures.1 in
-    rw (p.1, p.2) (record { answered = unanswered g.C.Condition.meaning refl (inl (check_failed _ _ c.in-err-position.ensures)); plainly = tt })
+pub returns-in_err-position : goal.returns-in_err-position
+returns-in_err-position g c =
+    let p = err_from_is_err_and c.from_residual.result c.from_residual.ensures.1 in
+    rw (p.1, p.2) (record { answered = unanswered g.C.Condition.meaning refl (inl (check_failed _ _ c.in_err-position.ensures)); plainly = tt })
 
 pub returns : goal.returns
 returns g c =
@@ -29,12 +29,12 @@ returns g c =
     let b = c.args.self.now in
     let s = state m b in
     let n = c.args.number in
-    let pending = check_passed _ _ c.in-ok-position.ensures in
+    let pending = check_passed _ _ c.in_ok-position.ensures in
     let at = position_below n s pending (held_few b.pending) in
     let whole : c.len-used.result - 0 ≡ c.len-used.result = omega arith in
     let o = c.orphans.result in
     let k = c.verdicts-committing.result in
-    let f = c.first-choices.result in
+    let f = c.first_choices.result in
     let all = c.choices.ensures.count in
     let same : (d : ℕ) → d < 64 → bit d o ≡ (ltb d (2 ^ length s.pending) && speaks_against n s d) =
     λ d l.
@@ -42,13 +42,13 @@ returns g c =
     let z = c.orphans.ensures d l ∙ ap (λ i. bit d (bit_and k f) && orphaned d (facts m i b.lines.now)) whole ∙ ap (λ fs. bit d (bit_and k f) && orphaned d fs) c.len-used.ensures.first in
     let u : bit d k ≡ bit (position n s) d =
     c.verdicts-committing.ensures d l
-    ∙ ap (λ q. q d) (c.narrowed.ensures ∙ ap (narrowing positions c.in-ok-position.position true) c.always.ensures ∙ ap (λ i. narrowing positions i true (everywhere positions)) (check_value _ _ c.in-ok-position.ensures))
+    ∙ ap (λ q. q d) (c.narrowed.ensures ∙ ap (narrowing positions c.in_ok-position.position true) c.always.ensures ∙ ap (λ i. narrowing positions i true (everywhere positions)) (check_value _ _ c.in_ok-position.ensures))
     ∙ narrowed_at (position n s) at d l 0 true (everywhere positions) ∙ ap (λ b. b && bit (position n s) d) (lt-ltb d 64 l) in
-    let v : bit d f ≡ ltb d (2 ^ length s.pending) = c.first-choices.ensures d ∙ ap (ltb d) all in
+    let v : bit d f ≡ ltb d (2 ^ length s.pending) = c.first_choices.ensures d ∙ ap (ltb d) all in
     grind (arith, nat_tests) in
     let top = 2 ^ length s.pending in
-    let gives : c.vote-against.result ≡ vote_on (lowest_below top (speaks_against n s)) =
-    c.vote-against.ensures ∙ ap vote_on (lowest_first 64 top _ (speaks_against n s) (omega (arith, c.choices.ensures.within, all)) same) in
+    let gives : c.vote_against.result ≡ vote_on (lowest_below top (speaks_against n s)) =
+    c.vote_against.ensures ∙ ap vote_on (lowest_first 64 top _ (speaks_against n s) (omega (arith, c.choices.ensures.within, all)) same) in
     record {
       answered = answered m (pending, tt) gives;
       plainly = subst (λ v. Says v top (speaks_against n s)) (sym gives) (vote_says top (speaks_against n s));
