@@ -8,7 +8,7 @@ use crate::faults::Reply;
 use crate::page::run;
 use book::{Book, Line, Vote};
 use conditions::Condition;
-use std::alloc::Global;
+use std::alloc::{AllocError, Global};
 use std::{fmt, io};
 
 impl fmt::Display for Answer {
@@ -26,7 +26,7 @@ impl fmt::Display for Answer {
 }
 
 // One line for a reply, behind what is there.
-fn put(text: &mut String, reply: Reply) -> fmt::Result
+fn put(text: &mut String, reply: Reply) -> Result<(), AllocError>
     ensures { OnOk result (string_bytes text.new ≡ string_bytes text.old ++ line_of reply) }
 {
     let place = reply.place;

@@ -13,23 +13,23 @@ returns-then-at-page c =
 pub returns-in-None : goal.returns-in-None
 returns-in-None c = read c.args.page.now c.args.at c.in-None.ensures
 
-pub returns-in_err-body : goal.returns-in_err-body
-returns-in_err-body c =
+pub returns-in_err-body-in-Some : goal.returns-in_err-body-in-Some
+returns-in_err-body-in-Some c =
     let page = c.args.page.now in
     let at = c.args.at in
     let k = c.in-Some.kind in
-    let t = c.in_err-body.ensures in
+    let t = c.in_err-body-in-Some.ensures in
     let p = err_from_is_err_and c.from_residual.result c.from_residual.ensures.1 in
     let short : length page < at + 1 + body_size k = omega (arith, t.1, c.size-size.ensures) in
     rw (p.1, p.2) (ap Err t.0 ∙ sym (lacks page at k short) ∙ read page at c.in-Some.ensures)
 
-pub returns-in_ok-body : goal.returns-in_ok-body
-returns-in_ok-body c =
+pub returns-in_ok-body-in-Some : goal.returns-in_ok-body-in-Some
+returns-in_ok-body-in-Some c =
     let page = c.args.page.now in
     let at = c.args.at in
     let k = c.in-Some.kind in
     let size = c.size-size.ensures in
-    let t = c.in_ok-body.ensures in
+    let t = c.in_ok-body-in-Some.ensures in
     let long : at + 1 + body_size k ≤ length page = omega (arith, t.2, size) in
     ap (λ x. Ok (x, at + 1 + c.size-size.result)) (c.read.ensures ∙ ap (call_of k) (t.0 ∙ ap (part page at) size))
     ∙ ap (λ n. Ok (call_of k (part page at (body_size k)), at + 1 + n)) size
