@@ -1,7 +1,6 @@
 -- The lowest number that passes a test passes it, and no lower one does.
 use Rattle.std.proofs.Common.{◌≡◌, ℕ, zero, suc, ◌+◌, ◌<◌, ◌≤◌, Bool, true, false, cond, Some, None, Option, refl, inl, inr, arith}
 use Rattle.std.proofs.lemmas.Bool.{cases_eq}
-use Rattle.book.specs.declared.vote.Vote.TheVariants.{Yes, No}
 use Rattle.book.specs.Votes.{lowest_from, lowest_below, vote_on, Says}
 
 -- of k numbers from c on: the outcome o is the lowest that passes, or none does

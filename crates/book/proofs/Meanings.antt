@@ -1,5 +1,5 @@
 -- Each write does to the tables, under every choice, what plain tables would do if its transaction commits.
-use Rattle.std.proofs.Common.{◌≡◌, ℕ, ◌+◌, ◌^◌, ◌<◌, ◌≤◌, Bool, true, false, cond, not, ◌&&◌, ◌||◌, eqb, List, [], ◌∷◌, ◌++◌, map, length, is_some, Some, None, filter, Option, sym, refl, ap, ◌∙◌, subst, arith}
+use Rattle.std.proofs.Common.{◌≡◌, ℕ, ◌+◌, ◌<◌, ◌≤◌, Bool, true, false, cond, not, ◌&&◌, eqb, List, [], ◌∷◌, ◌++◌, map, length, is_some, Some, filter, sym, refl, ap, ◌∙◌, arith}
 use Rattle.std.specs.List.{flat_map, AllByRecursion as All}
 use Rattle.std.specs.List.Sorted.{IsPermutation}
 use Rattle.std.proofs.lemmas.List.{map-append}
@@ -14,7 +14,7 @@ use Rattle.book.specs.Numbers.{place_from, place}
 use Rattle.book.specs.Tables.{stands, same_row, rows, has}
 use Rattle.book.specs.Writes.{Rewrite, deleted_line, plainly_updated, updated_lines}
 use Rattle.book.specs.Calls.{State, position, or_zero, with_lines, lines_inserted}
-use Rattle.book.specs.Plain.{Tables, row_added, rows_removed, rows_changed, tables, Writes, Decides}
+use Rattle.book.specs.Plain.{row_added, rows_removed, rows_changed, tables, Writes, Decides}
 use Rattle.book.proofs.Counting.{has_more}
 use Rattle.book.proofs.Plainly.{update_is_plain}
 use Rattle.book.proofs.Showing.{each_shows, insert_shows, delete_one, decide_one, update_one}

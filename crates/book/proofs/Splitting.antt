@@ -1,5 +1,5 @@
 -- A loop that changes each of the first places of a list, and may write one more element behind all.
-use Rattle.std.proofs.Common.{◌≡◌, ℕ, ◌+◌, ◌-◌, ◌<◌, ◌≤◌, List, [], ◌∷◌, ◌++◌, map, length, get_or, take, drop, set, sym, refl, ap, ◌∙◌, subst, arith}
+use Rattle.std.proofs.Common.{◌≡◌, ℕ, ◌+◌, ◌<◌, ◌≤◌, List, [], ◌∷◌, ◌++◌, map, length, get_or, take, drop, set, sym, refl, ap, ◌∙◌, subst, arith}
 use lib.Seq.{take-set-lt, set-get_or}
 use Rattle.std.specs.List.{flat_map}
 use Rattle.std.proofs.lemmas.List.{append-nil, append_assoc, length-append, length-set, length-map, length-take-le, length-drop, take_all, drop_all, take_more, take_more_set, drop_more, map-set, map_push, map_more, flat_map_more, set-append_left, set_at, get_or_append_left, get_or_at, get_or-map, get_or-take, take-append-drop, drop-set-lt}

@@ -1,5 +1,5 @@
 -- The choices that speak against a transaction, all at once.
-use Rattle.std.proofs.Common.{◌≡◌, ℕ, zero, suc, ◌+◌, ◌-◌, ◌/◌, ◌%◌, ◌^◌, ◌<◌, ◌≤◌, Bool, true, false, cond, not, ◌&&◌, ◌||◌, eqb, ltb, List, [], ◌∷◌, ◌++◌, map, length, get_or, take, drop, Some, None, Option, sym, refl, ap, ◌∙◌, arith}
+use Rattle.std.proofs.Common.{◌≡◌, ℕ, zero, suc, ◌+◌, ◌-◌, ◌/◌, ◌%◌, ◌^◌, ◌<◌, ◌≤◌, Bool, true, false, cond, not, ◌&&◌, ◌||◌, eqb, ltb, List, [], ◌∷◌, ◌++◌, map, length, get_or, take, drop, Some, None, sym, refl, ap, ◌∙◌, arith}
 use mathlib.Core.List.{map-append}
 use native.Mathlib.Nat.{pow-succ'}
 use lib.Bits.{bit_and, bit_or}
@@ -7,13 +7,13 @@ use lib.Count.{count_trailing_zeros, under, trailing_of_zero}
 use Rattle.std.proofs.lemmas.List.{drop_more, map_more, take-append-drop}
 use Rattle.std.proofs.lemmas.Bool.{ltb-true, ltb-false, lt-ltb, le-ltb}
 use Rattle.std.proofs.lemmas.Bool.Decides.{nat_tests}
-use Rattle.conditions.specs.Choices.{positions, bit}
+use Rattle.conditions.specs.Choices.{bit}
 use Rattle.conditions.proofs.Bits.{bit_half, bit_of_and, bit_of_or, bit_not}
 use Rattle.book.specs.declared.row.Row.{Row}
 use Rattle.book.specs.declared.line.Line.{Line}
 use Rattle.book.specs.Lines.{Fact, seen}
 use Rattle.book.specs.Tables.{stands, rows}
-use Rattle.book.specs.Votes.{has_cue, orphan, some_orphan, orphaned, lowest_from, lowest_below}
+use Rattle.book.specs.Votes.{has_cue, orphan, some_orphan, lowest_from, lowest_below}
 
 -- a line of the music cues, and whether it has the cue
 pub cue_more : (cue c : ℕ) (f : Fact) (fs : List Fact) → has_cue cue (rows 2 c (f ∷ fs)) ≡ ((stands 2 c f && eqb f.row.first cue) || has_cue cue (rows 2 c fs))

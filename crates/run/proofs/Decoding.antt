@@ -1,5 +1,5 @@
 -- Reading a record.
-use Rattle.std.proofs.Common.{◌≡◌, ℕ, ◌+◌, ◌<◌, ◌≤◌, List, length, get_or, Some, None, Ok, Err, Option, ap}
+use Rattle.std.proofs.Common.{◌≡◌, ℕ, ◌+◌, ◌<◌, ◌≤◌, List, length, get_or, Some, Ok, Err, Option, ap}
 use Rattle.std.proofs.lemmas.Bool.{le-leb, lt-leb}
 use Rattle.run.specs.declared.calls.Kind.{Kind}
 use Rattle.run.specs.declared.faults.PageFault.TheVariants.{CutShort}

@@ -1,5 +1,5 @@
 -- What a page leaves in the memory that it was run in.
-use Rattle.std.proofs.Common.{◌≡◌, ℕ, min, Bool, List, length, drop, sym, ap, ◌∙◌}
+use Rattle.std.proofs.Common.{◌≡◌, ℕ, Bool, List, length, drop, sym, ap, ◌∙◌}
 use Rattle.book.specs.declared.line.Line.{Line}
 use Rattle.book.specs.declared.book.Book.{Book}
 use Rattle.book.specs.Lines.{facts}

@@ -1,4 +1,4 @@
-use Rattle.std.proofs.Common.{◌≡◌, true, false, map, sym, ap, ◌∙◌, arith}
+use Rattle.std.proofs.Common.{true, false, map, sym, ◌∙◌, arith}
 use Rattle.std.proofs.lemmas.List.{at_drop_all}
 use Rattle.book.specs.Lines.{seen}
 use Rattle.book.specs.Tables.{rows, has}

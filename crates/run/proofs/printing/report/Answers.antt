@@ -1,4 +1,4 @@
-use Rattle.std.proofs.Common.{◌≡◌, ap, ◌∙◌, inr, rules}
+use Rattle.std.proofs.Common.{ap, ◌∙◌, inr, rules}
 use Rattle.std.proofs.lemmas.Result.{err_from_is_err_and}
 use Rattle.run.specs.Texts.{text_of}
 use Rattle.run.specs.Runs.{records, replies}

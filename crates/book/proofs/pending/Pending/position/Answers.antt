@@ -1,4 +1,4 @@
-use Rattle.std.proofs.Common.{◌≡◌, sym, ◌∙◌, arith}
+use Rattle.std.proofs.Common.{sym, ◌∙◌, arith}
 use Rattle.book.proofs.Placing.{place_here, place_next, place_end}
 use Rattle.book.proofs.pending.Pending.position.Goals as goal
 
