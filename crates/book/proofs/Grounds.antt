@@ -1,6 +1,6 @@
 -- Refusals: what a check says of its ground, what is told, and that the smallest number wins.
 use Rattle.std.proofs.Common.{◌≡◌, ℕ, suc, ◌≤◌, Bool, true, false, cond, ◌&&◌, ltb, ◌⊎◌, List, [], ◌∷◌, Ok, Err, refl, ap, inl, inr, arith}
-use Rattle.std.specs.List.{ContainsAt as Has, AllByRecursion as All}
+use Rattle.std.specs.List.{ContainsAt, AllByRecursion}
 use Rattle.std.proofs.lemmas.Bool.{ltb-true, and_parts, both_ways}
 use Rattle.book.specs.declared.faults.BookFault.{BookFault}
 use Rattle.book.specs.Faults.{refusal}
@@ -32,7 +32,7 @@ module _ {B : Type 0} (g : Ground) (c : B) where
 
 -- none applies
 abbrev pub Clear : List Ground → Type 0
-Clear gs = All (λ g. g.applies ≡ false) gs
+Clear gs = AllByRecursion (λ g. g.applies ≡ false) gs
 
 -- the first that applies has the fault f
 abbrev pub Stops : List Ground → BookFault → Type 0
@@ -54,7 +54,7 @@ rising k [] = true
 rising k (g ∷ gs) = ltb k (refusal g.fault).number && rising (refusal g.fault).number gs
 
 abbrev Least : BookFault → List Ground → Type 0
-Least f gs = All (λ g. g.applies ≡ true → (refusal f).number ≤ (refusal g.fault).number) gs
+Least f gs = AllByRecursion (λ g. g.applies ≡ true → (refusal f).number ≤ (refusal g.fault).number) gs
 
 module _ (k : ℕ) (f : BookFault) (g : Ground) (gs : List Ground) (up : rising k (g ∷ gs) ≡ true) where
   next : k ≤ (refusal g.fault).number
@@ -69,7 +69,7 @@ above k f (g ∷ gs) h up =
     let n = next k f g gs up in
     ((λ _. omega arith), above (refusal g.fault).number f gs (omega arith) (rest k f g gs up))
 
-pub told : (k : ℕ) (gs : List Ground) (f : BookFault) → rising k gs ≡ true → Stops gs f → Has gs (record { applies = true; fault = f }) × Least f gs
+pub told : (k : ℕ) (gs : List Ground) (f : BookFault) → rising k gs ≡ true → Stops gs f → ContainsAt gs (record { applies = true; fault = f }) × Least f gs
 told k [] f up h = absurd h
 told k (g ∷ gs) f up (inl h) = (
   (0, omega arith, λ d t. record { applies = h.0 t; fault = h.1 t }),

@@ -1,6 +1,6 @@
 -- Each write does to the tables, under every choice, what plain tables would do if its transaction commits.
 use Rattle.std.proofs.Common.{◌≡◌, ℕ, ◌+◌, ◌<◌, ◌≤◌, Bool, true, false, cond, not, ◌&&◌, eqb, List, [], ◌∷◌, ◌++◌, map, length, is_some, Some, filter, sym, refl, ap, ◌∙◌, arith}
-use Rattle.std.specs.List.{flat_map, AllByRecursion as All}
+use Rattle.std.specs.List.{flat_map, AllByRecursion}
 use Rattle.std.specs.List.Sorted.{IsPermutation}
 use Rattle.std.proofs.lemmas.List.{map-append}
 use Rattle.std.proofs.lemmas.List.Elements.{filter-append}
@@ -37,11 +37,11 @@ module _ (t c : ℕ) (r : Row) where
   abbrev Apart : Fact → Type 0
   Apart f = (stands t c f && same_row f.row r) ≡ false
 
-  apart : (fs : List Fact) → has r (rows t c fs) ≡ false → All Apart fs
+  apart : (fs : List Fact) → has r (rows t c fs) ≡ false → AllByRecursion Apart fs
   apart [] e = tt
   apart (f ∷ fs) e = let p = or_parts _ _ (sym (has_more t c f fs r _ refl) ∙ e) in (p.0, apart fs p.1)
 
-  lacks : (fs : List Fact) → All Apart fs → has r (rows t c fs) ≡ false
+  lacks : (fs : List Fact) → AllByRecursion Apart fs → has r (rows t c fs) ≡ false
   lacks [] h = refl
   lacks (f ∷ fs) h = has_more t c f fs r _ refl ∙ or_from _ _ h.0 (lacks fs h.1)
 

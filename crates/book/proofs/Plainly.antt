@@ -1,6 +1,6 @@
 -- An update leaves what it leaves line by line, in another order.
 use Rattle.std.proofs.Common.{◌≡◌, Bool, true, false, cond, List, [], ◌∷◌, ◌++◌, map, sym, refl, ap, ◌∙◌, subst, ⊎_elim, arith}
-use Rattle.std.specs.List.{flat_map, AllByRecursion as All}
+use Rattle.std.specs.List.{flat_map, AllByRecursion}
 use Rattle.std.specs.List.Sorted.{IsPermutation}
 use Rattle.std.proofs.lemmas.Bool.{both_ways, cases_Bool}
 use Rattle.std.proofs.lemmas.List.Sorted.{IsPermutation-refl, IsPermutation-cons, IsPermutation-trans, IsPermutation-swap}
@@ -80,16 +80,16 @@ update_is_plain u fs =
 abbrev Possible : Fact → Type 0
 Possible f = impossible f ≡ false
 
-both_possible : (u : Rewrite) (f : Fact) → All Possible (plainly_updated u f)
+both_possible : (u : Rewrite) (f : Fact) → AllByRecursion Possible (plainly_updated u f)
 both_possible u f =
-    elim (rewritten u f) as (λ t. All Possible (cond t (kept (original u f) ++ kept (copy u f)) (kept f))) [
+    elim (rewritten u f) as (λ t. AllByRecursion Possible (cond t (kept (original u f) ++ kept (copy u f)) (kept f))) [
       | true ↦ All-append Possible (kept (original u f)) (kept (copy u f)) (kept_possible (original u f) _ refl) (kept_possible (copy u f) _ refl)
       | false ↦ kept_possible f _ refl
     ]
 
-lines_possible : (u : Rewrite) (fs : List Fact) → All Possible (flat_map (plainly_updated u) fs)
+lines_possible : (u : Rewrite) (fs : List Fact) → AllByRecursion Possible (flat_map (plainly_updated u) fs)
 lines_possible u [] = tt
 lines_possible u (f ∷ fs) = All-append Possible (plainly_updated u f) (flat_map (plainly_updated u) fs) (both_possible u f) (lines_possible u fs)
 
-pub update_leaves_possible : (u : Rewrite) (fs : List Fact) → All Possible (updated_lines u fs)
+pub update_leaves_possible : (u : Rewrite) (fs : List Fact) → AllByRecursion Possible (updated_lines u fs)
 update_leaves_possible u fs = all_shuffled Possible (flat_map (plainly_updated u) fs) (updated_lines u fs) (update_is_plain u fs) (lines_possible u fs)

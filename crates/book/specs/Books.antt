@@ -1,6 +1,6 @@
 -- A book in memory, and what every call promises of it.
 use Rattle.std.specs.Prelude.{◌≡◌, ℕ, ◌^◌, max, Bool, false, length, drop, IfOk, Err, Result}
-use Rattle.std.specs.List.{AllByRecursion as All}
+use Rattle.std.specs.List.{AllByRecursion}
 use Rattle.book.specs.declared.book.Book.{Book}
 use Rattle.book.specs.declared.faults.BookFault.{BookFault}
 use Rattle.book.specs.Numbers.{held}
@@ -11,7 +11,7 @@ use Rattle.book.specs.Calls.{State, Effect, reply, after, Told, voted, speaks_ag
 
 -- no line in use is impossible
 abbrev pub Possible : State → Type 0
-Possible s = All (λ f. impossible f ≡ false) s.lines
+Possible s = AllByRecursion (λ f. impossible f ≡ false) s.lines
 
 -- over a kind of condition with the meaning m
 module _ {C : Type 0} (m : C → ℕ → Bool) where

@@ -1,6 +1,6 @@
 -- What each call of a book answers, on which grounds it is refused, and how it leaves the book.
 use Rattle.std.specs.Prelude.{◌≡◌, ℕ, ◌^◌, ◌≤◌, Bool, true, false, cond, not, ◌&&◌, ◌||◌, List, [], ◌∷◌, ◌++◌, length, is_some, Some, None, Ok, Err, Option, Result, ◌==◌, nat_le, nat_lt}
-use Rattle.std.specs.List.{flat_map, ContainsAt as Has, AllByRecursion as All}
+use Rattle.std.specs.List.{flat_map, ContainsAt, AllByRecursion}
 use Rattle.conditions.specs.Choices.{positions, bit}
 use Rattle.book.specs.declared.row.Row.{Row}
 use Rattle.book.specs.declared.filter.RawFilter.{RawFilter}
@@ -59,10 +59,10 @@ after e s = accepted s (refusing (e.grounds s) (e.leaves s))
 -- The smallest number wins, and nothing else is refused: of a refusal, it is on a ground that applies, and no ground
 -- with a smaller number does; of an acceptance, no ground applies.
 abbrev pub Told : {A : Type 0} → List Ground → Result A BookFault → Type 0
-Told gs (Ok _) = All (λ g. g.applies ≡ false) gs
+Told gs (Ok _) = AllByRecursion (λ g. g.applies ≡ false) gs
 Told gs (Err e) =
-    Has gs (record { applies = true; fault = e })
-    × All (λ g. g.applies ≡ true → (refusal e).number ≤ (refusal g.fault).number) gs
+    ContainsAt gs (record { applies = true; fault = e })
+    × AllByRecursion (λ g. g.applies ≡ true → (refusal e).number ≤ (refusal g.fault).number) gs
 
 -- Grounds
 
