@@ -4,8 +4,8 @@ use Rattle.conditions.proofs.Meaning.{decided_past}
 use Rattle.conditions.proofs.TruthSets.{set_decided}
 use Rattle.conditions.proofs.truth.TruthSetCondition.decided.Goals as goal
 
-pub returns-then-position-ge-POSITIONS : goal.returns-then-position-ge-POSITIONS
-returns-then-position-ge-POSITIONS c = search (rules, decided_past)
+pub returns-in_default : goal.returns-in_default
+returns-in_default c = search (rules, decided_past)
 
 pub loop-choice-init : goal.loop-choice-init
 loop-choice-init c k = search (rules, bit_zero)

@@ -5,7 +5,7 @@ use Rattle.conditions.specs.Choices.{positions, bit, same}
 use Rattle.conditions.specs.Kinds.{all_below}
 use Rattle.conditions.proofs.Bits.{bit_not}
 use Rattle.conditions.proofs.Meaning.{all_decides}
-use Rattle.conditions.proofs.choices.mask.Goals as goal
+use Rattle.conditions.proofs.positions.Position.mask.Goals as goal
 
 abbrev table : List ℕ
 table =
@@ -31,7 +31,7 @@ module _ (i c : ℕ) (h : i < positions) (k : c < 2 ^ positions) where
   off = bit_not 64 c (get_or table i 0) (ltb-true _ _ entry.0) k ∙ ap not on
 
 pub returns-then-commits : goal.returns-then-commits
-returns-then-commits c k h = rw c.if-commits.true (on c.args.position k c.requires h)
+returns-then-commits c k h = rw c.if-commits.true (on c.args.self.number k c.args.self.within h)
 
 pub returns-else-commits : goal.returns-else-commits
-returns-else-commits c k h = rw c.if-commits.false (off c.args.position k c.requires h)
+returns-else-commits c k h = rw c.if-commits.false (off c.args.self.number k c.args.self.within h)

@@ -1,7 +1,7 @@
 use Rattle.std.proofs.Common.{rules}
 use Rattle.conditions.specs.Kinds.{in_set}
 use Rattle.conditions.proofs.Bits.{bit_read}
-use Rattle.conditions.proofs.truth.contains.Goals as goal
+use Rattle.conditions.proofs.truth.TruthSetCondition.holds.Goals as goal
 
 pub returns-then-choice-lt-CHOICES : goal.returns-then-choice-lt-CHOICES
 unfolding in_set

@@ -1,0 +1,13 @@
+use Rattle.std.proofs.Common.{rules}
+use Rattle.std.proofs.lemmas.Nat.{pow_below}
+use Rattle.conditions.proofs.Sources.{closed_bit, closed_below}
+use Rattle.conditions.proofs.positions.Positions.closed_up.Goals as goal
+
+pub overflow_mul-result : goal.overflow_mul-result
+overflow_mul-result c = search (rules, pow_below)
+
+pub invariant_of-result : goal.invariant_of-result
+invariant_of-result c = search (rules, closed_below)
+
+pub returns : goal.returns
+returns c j = search (rules, closed_bit)
