@@ -1,4 +1,4 @@
-ghost use Rattle.std.specs.Prelude.{◌≡◌, ℕ, ◌^◌, ◌<◌, ◌≤◌, ◌||◌, ◌==◌, Bool, true, false, MatchOption};
+ghost use Rattle.std.specs.Prelude.{◌≡◌, ℕ, ◌^◌, ◌<◌, ◌≤◌, ◌||◌, ◌==◌, MatchOption};
 ghost use Rattle.conditions.specs.Choices.{positions, bit, same, source};
 ghost use Rattle.conditions.specs.Kinds.{agreeing, skipping};
 
@@ -83,7 +83,7 @@ impl Positions {
     }
 
     // The choices in which each of them ends so: one mask for each.
-    pub(crate) fn masked(self, commits: bool) -> u64
+    pub(crate) fn mask(self, commits: bool) -> u64
         ensures { (c : ℕ) → c < 2 ^ positions → bit c result ≡ agreeing positions commits self.bits c }
     {
         let mut verdicts = u64::MAX;

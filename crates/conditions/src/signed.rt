@@ -1,5 +1,5 @@
-ghost use Rattle.std.specs.Prelude.{◌≡◌, ℕ, ◌^◌, ◌<◌, Bool, true, false, cond};
-ghost use Rattle.conditions.specs.Choices.{positions, bit};
+ghost use Rattle.std.specs.Prelude.{◌≡◌};
+ghost use Rattle.conditions.specs.Choices.{positions};
 ghost use Rattle.conditions.specs.Kinds.{in_pair, contradicting};
 ghost use borrow.Author.Rules.{rules};
 
@@ -87,6 +87,6 @@ impl Condition for SignedPair {
     }
 
     fn verdicts(&self) -> u64 {
-        self.committing.masked(true) & self.aborting.masked(false)
+        self.committing.mask(true) & self.aborting.mask(false)
     }
 }

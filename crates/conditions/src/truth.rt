@@ -1,6 +1,4 @@
-ghost use Rattle.std.specs.Prelude.{◌≡◌, ℕ, ◌^◌, ◌<◌, Bool, true, false};
-ghost use Rattle.conditions.specs.Choices.{positions, bit};
-ghost use Rattle.conditions.specs.Meanings.{everywhere, narrowing, deciding, nowhere};
+ghost use Rattle.conditions.specs.Choices.{positions};
 ghost use Rattle.conditions.specs.Kinds.{in_set};
 ghost use borrow.Author.Rules.{rules};
 

@@ -3,7 +3,7 @@ use Rattle.conditions.specs.Choices.{positions}
 use Rattle.conditions.specs.Kinds.{agreeing}
 use Rattle.conditions.proofs.Bits.{bit_of_and, bit_ones}
 use Rattle.conditions.proofs.SignedPairs.{agreeing_more, agreeing_rest}
-use Rattle.conditions.proofs.positions.Positions.masked.Goals as goal
+use Rattle.conditions.proofs.positions.Positions.mask.Goals as goal
 
 pub loop-number-init : goal.loop-number-init
 unfolding agreeing
