@@ -1,3 +1,5 @@
+#![tactic(auto, using(crate::proofs::SignedPairs::meanings))]
+
 ghost use Rattle.std.specs.Prelude.{◌≡◌};
 ghost use Rattle.conditions.specs.Choices.{positions};
 ghost use Rattle.conditions.specs.Kinds.{in_pair, contradicting};

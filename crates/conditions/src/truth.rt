@@ -1,3 +1,5 @@
+#![tactic(auto, using(crate::proofs::TruthSets::meanings))]
+
 ghost use Rattle.conditions.specs.Choices.{positions};
 ghost use Rattle.conditions.specs.Kinds.{in_set};
 ghost use borrow.Author.Rules.{rules};

@@ -6,8 +6,5 @@ use Rattle.conditions.proofs.positions.Positions.closed_up.Goals as goal
 pub overflow_mul-result : goal.overflow_mul-result
 overflow_mul-result c = search (rules, pow_below)
 
-pub invariant_of-result : goal.invariant_of-result
-invariant_of-result c = search (rules, closed_below)
-
 pub returns : goal.returns
 returns c j = search (rules, closed_bit)
