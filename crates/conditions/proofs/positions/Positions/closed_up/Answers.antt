@@ -1,6 +1,6 @@
 use Rattle.std.proofs.Common.{rules}
 use Rattle.std.proofs.lemmas.Nat.{pow_below}
-use Rattle.conditions.proofs.Sources.{closed_bit, closed_below}
+use Rattle.conditions.proofs.Sources.{closed_bit}
 use Rattle.conditions.proofs.positions.Positions.closed_up.Goals as goal
 
 pub overflow_mul-result : goal.overflow_mul-result
