@@ -33,7 +33,8 @@ impl Position {
 
     // What its bit is worth.
     fn worth(self) -> u8
-        ensures { result ≡ 2 ^ self.number }
+        ensures is { result ≡ 2 ^ self.number }
+        ensures among { result < 2 ^ positions }
     {
         1 << self.number
     }

@@ -4,9 +4,6 @@ use Rattle.std.proofs.lemmas.Nat.{pow_below, pow-add, shr_split}
 use Rattle.conditions.specs.Choices.{positions, worth, source}
 use Rattle.conditions.proofs.positions.Position.origin.Goals as goal
 
-pub overflow_add-result-2 : goal.overflow_add-result-2
-overflow_add-result-2 c = search (rules, pow_below)
-
 moved : (i : ℕ) (s : Bool) (c : ℕ) → c % 2 ^ i + worth s * 2 ^ i + (c - c % 2 ^ i) % 32 * 2 ≡ source positions i s c
 unfolding source
 moved i s c = rw (pow-add 2 i 1) (omega (arith, shr_split c i))
