@@ -36,13 +36,9 @@ impl Condition for TruthSet {
         let Some(position) = Position::new(position) else {
             return *self;
         };
-        // A loop: a fold over the choices says the same, and its proof is three times as long.
-        let mut verdicts = 0u64;
-        for choice in 0..CHOICES {
-            if self.holds(position.origin(commits, choice)) {
-                verdicts |= 1u64 << choice;
-            }
-        }
+        let verdicts = (0..CHOICES)
+            .filter(|choice| self.holds(position.origin(commits, *choice)))
+            .fold(0u64, |verdicts, choice| verdicts | 1u64 << choice);
         TruthSet { verdicts }
     }
 
