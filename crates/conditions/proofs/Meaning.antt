@@ -1,5 +1,5 @@
 -- What conditions mean, for any number of positions: impossible and possible, narrowed and decided.
-use Rattle.std.proofs.Common.{◌≡◌, ℕ, ◌-◌, ◌^◌, ◌<◌, ◌≤◌, Bool, true, false, not, Decides, refl, arith}
+use Rattle.std.proofs.Common.{◌≡◌, ℕ, ◌^◌, ◌<◌, ◌≤◌, Bool, true, false, not, Decides, refl, arith}
 use mathlib.Core.Path.{fun_ext}
 use lib.Pow.{ones_lt}
 use Rattle.std.proofs.lemmas.Bool.{not-true, not_from_false}

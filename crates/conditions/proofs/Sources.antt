@@ -1,7 +1,7 @@
 -- A position put into a number, or taken out: the choice of before a decision, and a set that closes up.
 use Rattle.std.proofs.Common.{◌≡◌, ℕ, suc, ◌+◌, ◌-◌, ◌*◌, ◌/◌, ◌%◌, ◌^◌, ◌<◌, Bool, cond, ltb, sym, ap, ◌∙◌, add-zero, arith}
-use native.Mathlib.Nat.{div-div-eq-div-mul, mul-mod_left}
-use Rattle.std.proofs.lemmas.Nat.{mod_below, mod-pow-add, mul-add-lt, mul-le, pow-add, pow_pos, shl-shr, shr_split}
+use native.Mathlib.Nat.{mul-mod_left}
+use Rattle.std.proofs.lemmas.Nat.{mod_below, mod-pow-add, mul-add-lt, pow-add, pow_pos, shl-shr}
 use Rattle.std.proofs.lemmas.Nat.Bits.{bit_at_cat_low, bit_at_cat_high}
 use Rattle.std.proofs.lemmas.Bool.Decides.{nat_tests}
 use Rattle.conditions.specs.Choices.{bit, worth, source}

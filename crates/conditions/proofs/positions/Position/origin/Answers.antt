@@ -1,6 +1,6 @@
 -- What is moved up by one loses the bit that leaves the last position.
-use Rattle.std.proofs.Common.{◌≡◌, ℕ, ◌+◌, ◌-◌, ◌*◌, ◌%◌, ◌^◌, Bool, true, false, arith, rules}
-use Rattle.std.proofs.lemmas.Nat.{pow_below, pow-add, shr_split}
+use Rattle.std.proofs.Common.{◌≡◌, ℕ, ◌+◌, ◌-◌, ◌*◌, ◌%◌, ◌^◌, Bool, arith}
+use Rattle.std.proofs.lemmas.Nat.{pow-add, shr_split}
 use Rattle.conditions.specs.Choices.{positions, worth, source}
 use Rattle.conditions.proofs.positions.Position.origin.Goals as goal
 

@@ -1,5 +1,4 @@
 use Rattle.std.proofs.Common.{rules}
-use Rattle.std.proofs.lemmas.Nat.{pow_below}
 use Rattle.conditions.proofs.Sources.{closed_bit}
 use Rattle.conditions.proofs.positions.Positions.closed_up.Goals as goal
 

@@ -1,5 +1,4 @@
-use Rattle.std.proofs.Common.{◌∙◌, arith, rules}
-use Rattle.conditions.specs.Choices.{positions}
+use Rattle.std.proofs.Common.{rules}
 use Rattle.conditions.specs.Kinds.{agreeing}
 use Rattle.conditions.proofs.Bits.{bit_of_and, bit_ones}
 use Rattle.conditions.proofs.SignedPairs.{agreeing_more, agreeing_rest}
