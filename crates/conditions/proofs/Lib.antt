@@ -3,3 +3,4 @@ pub mod Sources
 pub mod Meaning
 pub mod TruthSets
 pub mod SignedPairs
+pub mod Collected

@@ -1,5 +1,5 @@
 -- What conditions mean, for any number of positions: impossible and possible, narrowed and decided.
-use Rattle.std.proofs.Common.{◌≡◌, ℕ, ◌-◌, ◌^◌, ◌<◌, ◌≤◌, Bool, true, false, not, Decides, refl, arith}
+use Rattle.std.proofs.Common.{◌≡◌, ℕ, ◌^◌, ◌<◌, ◌≤◌, Bool, true, false, not, Decides, refl, arith}
 use mathlib.Core.Path.{fun_ext}
 use lib.Pow.{ones_lt}
 use Rattle.std.proofs.lemmas.Bool.{not-true, not_from_false}
@@ -23,9 +23,6 @@ unfolding nowhere none_below
 nowhere_decides n m =
     Decides-below_and (λ c. not (m c)) (λ c. m c ≡ false) (λ k. none_below k m) (λ c. (not-true (m c), not_from_false (m c))) refl (λ _. refl) (2 ^ n)
 
-pub somewhere : (n : ℕ) (m : ℕ → Bool) (c : ℕ) → c < 2 ^ n → m c ≡ true → nowhere n m ≡ false
-somewhere n m c h t = grind (arith, nowhere_decides n m)
-
 -- a half of what is impossible is impossible
 pub half_nowhere : (n i : ℕ) (s : Bool) (m : ℕ → Bool) → nowhere n m ≡ true → nowhere n (narrowing n i s m) ≡ true
 unfolding narrowing
@@ -39,8 +36,7 @@ halves_nowhere n i m f t = (nowhere_decides n m).1 (λ c l. grind (arith, (nowhe
 -- a half of always is possible: the choice in which all commit is in it
 pub half_somewhere : (n i : ℕ) → nowhere n (narrowing n i true (everywhere n)) ≡ false
 unfolding narrowing
-half_somewhere n i =
-    somewhere n (narrowing n i true (everywhere n)) (2 ^ n - 1) (ones_lt n) (grind (arith, nat_tests, bit_ones n i, ones_lt n))
+half_somewhere n i = grind (arith, nat_tests, nowhere_decides n (narrowing n i true (everywhere n)), bit_ones n i, ones_lt n)
 
 pub narrowed_past : (n i : ℕ) (s : Bool) (m : ℕ → Bool) → n ≤ i → m ≡ narrowing n i s m
 unfolding narrowing

@@ -10,7 +10,7 @@ use Rattle.conditions.specs.Meanings.{everywhere, narrowing, deciding, nowhere}
 use Rattle.conditions.specs.Kinds.{implied, agreeing, in_pair, skipping, contradicting}
 use Rattle.conditions.proofs.Bits.{bit_of_and, bit_past, bit_zero, bits_alike}
 use Rattle.conditions.proofs.Sources.{source_below, source_own, source_other}
-use Rattle.conditions.proofs.Meaning.{is_true, alike, all_decides, nowhere_decides}
+use Rattle.conditions.proofs.Meaning.{is_true, alike, all_decides, nowhere_decides, narrowed_past, decided_past}
 
 -- one position more
 pub agreeing_more : (n : ℕ) (s : Bool) (x c : ℕ) → agreeing (n + 1) s x c ≡ (implied (bit n x) (same s (bit n c)) && agreeing n s x c)
@@ -117,3 +117,9 @@ module _ (n p a : ℕ) (hp : p < 2 ^ n) (ha : a < 2 ^ n) where
         | inr f ↦ f
       ])
       (λ f e. both_ways (in_pair n p a p) (f p hp) ((pair_decides n p a p).1 (hp, λ j k. grind (arith, bit_of_and j p a, bit_zero j))))
+
+pub pair_verdict : (n p a c : ℕ) → c < 2 ^ n → in_pair n p a c ≡ (agreeing n true p c && agreeing n false a c)
+unfolding in_pair
+pair_verdict n p a c h = rw (lt-ltb c (2 ^ n) h)
+
+pub ruleset meanings = (narrowed_past, decided_past, pair_always, pair_narrowed, pair_contrary, pair_decided, pair_nowhere, pair_holds, pair_verdict, bit_of_and)

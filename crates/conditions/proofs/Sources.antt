@@ -1,29 +1,25 @@
 -- A position put into a number, or taken out: the choice of before a decision, and a set that closes up.
 use Rattle.std.proofs.Common.{◌≡◌, ℕ, suc, ◌+◌, ◌-◌, ◌*◌, ◌/◌, ◌%◌, ◌^◌, ◌<◌, Bool, cond, ltb, sym, ap, ◌∙◌, add-zero, arith}
-use native.Mathlib.Nat.{div-div-eq-div-mul, mul-mod_left}
-use Rattle.std.proofs.lemmas.Nat.{mod_below, mod-pow-add, mul-add-lt, mul-le, pow-add, pow_pos, shl-shr, shr_split}
+use native.Mathlib.Nat.{mul-mod_left}
+use Rattle.std.proofs.lemmas.Nat.{mod_below, mod-pow-add, mul-add-lt, pow-add, pow_pos, shl-shr}
+use Rattle.std.proofs.lemmas.Nat.Bits.{bit_at_cat_low, bit_at_cat_high}
 use Rattle.std.proofs.lemmas.Bool.Decides.{nat_tests}
 use Rattle.conditions.specs.Choices.{bit, worth, source}
 use Rattle.conditions.specs.Kinds.{skipping}
-use Rattle.conditions.proofs.Bits.{bit_half, bit_shr, bit_high, bit_low, bit_mod}
+use Rattle.conditions.proofs.Bits.{bit_half, bit_shr, bit_mod}
 
 low : (x i : ℕ) → x % 2 ^ i < 2 ^ i
 low x i = mod_below x (2 ^ i) (pow_pos i)
 
 -- the bits of x below position i, and those of a from there on
 joined : (i j a x : ℕ) → bit j (a * 2 ^ i + x % 2 ^ i) ≡ cond (ltb j i) (bit j x) (bit (j - i) a)
-joined i j a x = grind (arith, nat_tests, bit_low j i a (x % 2 ^ i), bit_mod j i x, bit_high (j - i) i a (x % 2 ^ i) (low x i))
+joined i j a x = grind (arith, nat_tests, bit_at_cat_low a i (x % 2 ^ i) j, bit_mod j i x, bit_at_cat_high a i (x % 2 ^ i) j (low x i))
 
 -- the set x without position i
 pub closed_bit : (i j x : ℕ) → bit j (x % 2 ^ i + x / (2 ^ i * 2) * 2 ^ i) ≡ bit (skipping i j) x
 closed_bit i j x =
     let e : x % 2 ^ i + x / (2 ^ i * 2) * 2 ^ i ≡ x / 2 ^ (i + 1) * 2 ^ i + x % 2 ^ i = rw (pow-add 2 i 1) (omega arith) in
     rw e (grind (arith, nat_tests, joined i j (x / 2 ^ (i + 1)) x, bit_shr (j - i) (i + 1) x))
-
-pub closed_below : (n i x : ℕ) → x < 2 ^ n → x % 2 ^ i + x / (2 ^ i * 2) * 2 ^ i < 2 ^ n
-closed_below n i x h =
-    let e = div-div-eq-div-mul x (2 ^ i) 2 in
-    omega (arith, shr_split x i, mul-le (x / (2 ^ i * 2)) (2 ^ i) (x / 2 ^ i) (2 ^ i) (omega arith) (omega arith))
 
 module _ (n i : ℕ) (s : Bool) (c : ℕ) (h : i < n) where
   -- the positions from i on, with s put in

@@ -1,10 +1,13 @@
-ghost use Rattle.std.specs.Prelude.{◌≡◌, ℕ, ◌^◌, ◌<◌, Bool, true, false};
+ghost use Rattle.std.specs.Prelude.{◌≡◌, ℕ, ◌^◌, ◌<◌, ◌≤◌, ◌||◌, ◌==◌, MatchOption};
 ghost use Rattle.conditions.specs.Choices.{positions, bit, same, source};
+ghost use Rattle.conditions.specs.Kinds.{agreeing, skipping};
+
+use crate::positions::{Position, Positions};
 
 // How many transactions can be pending at a time.
 pub const POSITIONS: usize = 6;
 
-pub(crate) const CHOICES: u8 = 64;
+pub(crate) const CHOICES: u8 = 1 << POSITIONS;
 
 // For each position, the choices in which the transaction there commits.
 const COMMITTING: [u64; POSITIONS] = [
@@ -16,36 +19,85 @@ const COMMITTING: [u64; POSITIONS] = [
     0xFFFF_FFFF_0000_0000,
 ];
 
-// The choices in which the position ends so, one bit for each.
-pub(crate) fn mask(position: u8, commits: bool) -> u64
-    requires { position < positions }
-    ensures { (c : ℕ) → c < 2 ^ positions → bit c result ≡ same commits (bit position c) }
-{
-    let ones = COMMITTING[position as usize];
-    if commits { ones } else { !ones }
-}
+impl Position {
+    // None past the last.
+    pub(crate) fn new(number: u8) -> Option<Position>
+        ensures { MatchOption result (positions ≤ number) (λ p. p.number ≡ number) }
+    {
+        if (number as usize) < POSITIONS {
+            Some(Position { number })
+        } else {
+            None
+        }
+    }
 
-// The choice of before the position was decided so.
-pub(crate) fn origin(position: u8, commits: bool, choice: u8) -> u8
-    requires at { position < positions }
-    requires among { choice < 2 ^ positions }
-    ensures is { result ≡ source positions position commits choice }
-    ensures among { result < 2 ^ positions }
-{
-    let step = 1u8 << position;
-    let high = choice / step * (step * 2) % CHOICES;
-    let low = choice % step;
-    if commits {
-        low + step + high
-    } else {
-        low + high
+    // What its bit is worth.
+    fn worth(self) -> u8
+        ensures is { result ≡ 2 ^ self.number }
+        ensures among { result < 2 ^ positions }
+    {
+        1 << self.number
+    }
+
+    // The choices in which the position ends so, one bit for each.
+    pub(crate) fn mask(self, commits: bool) -> u64
+        ensures { (c : ℕ) → c < 2 ^ positions → bit c result ≡ same commits (bit self.number c) }
+    {
+        let ones = COMMITTING[self.number as usize];
+        if commits { ones } else { !ones }
+    }
+
+    // The choice of before the position was decided so.
+    pub(crate) fn origin(self, commits: bool, choice: u8) -> u8
+        ensures { result ≡ source positions self.number commits choice }
+    {
+        let step = self.worth();
+        let low = choice % step;
+        let high = (choice - low) % (CHOICES / 2) * 2;
+        low + u8::from(commits) * step + high
     }
 }
 
-// Whether a set of positions has one.
-pub(crate) fn has(set: u8, position: u8) -> bool
-    requires { position < positions }
-    ensures { result ≡ bit position set }
-{
-    (set >> position) & 1 == 1
+impl Positions {
+    pub(crate) fn has(self, position: Position) -> bool
+        ensures { result ≡ bit position.number self.bits }
+    {
+        (self.bits >> position.number) & 1 == 1
+    }
+
+    pub(crate) fn with(self, position: Position) -> Positions
+        ensures { (j : ℕ) → bit j result.bits ≡ (bit j self.bits || j == position.number) }
+    {
+        Positions {
+            bits: self.bits | position.worth(),
+        }
+    }
+
+    // Without the position: those below it stay, and each above moves down by one.
+    pub(crate) fn closed_up(self, position: Position) -> Positions
+        ensures { (j : ℕ) → bit j result.bits ≡ bit (skipping position.number j) self.bits }
+    {
+        let step = position.worth();
+        Positions {
+            bits: self.bits % step + self.bits / (step * 2) * step,
+        }
+    }
+
+    // The choices in which each of them ends so: one mask for each.
+    pub(crate) fn mask(self, commits: bool) -> u64
+        ensures { (c : ℕ) → c < 2 ^ positions → bit c result ≡ agreeing positions commits self.bits c }
+    {
+        let mut verdicts = u64::MAX;
+        for number in 0..POSITIONS as u8 {
+            // Most sets are small: the rest of this one is empty.
+            if self.bits >> number == 0 {
+                return verdicts;
+            }
+            let position = Position { number };
+            if self.has(position) {
+                verdicts &= position.mask(commits);
+            }
+        }
+        verdicts
+    }
 }

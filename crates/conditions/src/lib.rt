@@ -4,11 +4,11 @@
 
 mod choices;
 mod condition;
-mod pair;
+mod positions;
 mod signed;
 mod truth;
 
 pub use choices::POSITIONS;
 pub use condition::Condition;
-pub use pair::SignedPair;
+pub use signed::SignedPair;
 pub use truth::TruthSet;

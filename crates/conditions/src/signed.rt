@@ -1,112 +1,94 @@
-ghost use Rattle.std.specs.Prelude.{◌≡◌, ℕ, ◌^◌, ◌<◌, Bool, true, false, cond};
-ghost use Rattle.conditions.specs.Choices.{positions, bit};
-ghost use Rattle.conditions.specs.Kinds.{agreeing, in_pair, skipping, contradicting};
+#![tactic(auto, using(crate::proofs::SignedPairs::meanings))]
+
+ghost use Rattle.std.specs.Prelude.{◌≡◌};
+ghost use Rattle.conditions.specs.Choices.{positions};
+ghost use Rattle.conditions.specs.Kinds.{in_pair, contradicting};
 ghost use borrow.Author.Rules.{rules};
 
-use crate::choices::{CHOICES, POSITIONS, has, mask};
+use crate::choices::CHOICES;
 use crate::condition::Condition;
-use crate::pair::SignedPair;
+use crate::positions::{Position, Positions};
 
-// The set without a position: those below stay, and each above moves down by one.
-fn close(set: u8, position: u8) -> u8
-    requires at { position < positions }
-    requires among { set < 2 ^ positions }
-    ensures moved { (j : ℕ) → bit j result ≡ bit (skipping position j) set }
-    ensures among { result < 2 ^ positions }
-{
-    let step = 1u8 << position;
-    set % step + set / (step * 2) * step
+// A condition that keeps the positions that must commit and those that must abort.
+// It is impossible where the two sets share a position.
+#[derive(Clone, Copy)]
+pub struct SignedPair {
+    committing: Positions,
+    aborting: Positions,
 }
 
-// The positions that must end otherwise.
-fn contrary(pair: SignedPair, commits: bool) -> u8
-    ensures { result ≡ contradicting commits pair.committing pair.aborting }
-{
-    if commits {
-        pair.aborting
-    } else {
-        pair.committing
-    }
-}
-
-// The choices in which every position of the set ends so: one mask for each.
-fn masked(set: u8, commits: bool) -> u64
-    ensures { (c : ℕ) → c < 2 ^ positions → bit c result ≡ agreeing positions commits set c }
-{
-    let mut verdicts = u64::MAX;
-    for position in 0..POSITIONS as u8 {
-        // Most sets are small: the rest of this one is empty.
-        if set >> position == 0 {
-            return verdicts;
-        }
-        if has(set, position) {
-            verdicts &= mask(position, commits);
+impl SignedPair {
+    // The positions that must end otherwise.
+    fn contrary(&self, commits: bool) -> Positions
+        ensures { result.bits ≡ contradicting commits self.now.committing.bits self.now.aborting.bits }
+    {
+        if commits {
+            self.aborting
+        } else {
+            self.committing
         }
     }
-    verdicts
 }
 
 impl Condition for SignedPair {
-    ghost meaning = { λ p. in_pair positions p.committing p.aborting };
+    ghost meaning = { λ p. in_pair positions p.committing.bits p.aborting.bits };
 
     ghost bounded = { unfold in_pair in Prim.search rules };
 
     fn always() -> SignedPair {
+        let none = Positions { bits: 0 };
         SignedPair {
-            committing: 0,
-            aborting: 0,
+            committing: none,
+            aborting: none,
         }
     }
 
     fn narrowed(&self, position: u8, commits: bool) -> SignedPair {
-        if position as usize >= POSITIONS {
+        let Some(position) = Position::new(position) else {
             return *self;
-        }
-        let own = 1u8 << position;
+        };
         if commits {
-            return SignedPair {
-                committing: self.committing | own,
-                aborting: self.aborting,
-            };
-        }
-        SignedPair {
-            committing: self.committing,
-            aborting: self.aborting | own,
+            SignedPair {
+                committing: self.committing.with(position),
+                ..*self
+            }
+        } else {
+            SignedPair {
+                aborting: self.aborting.with(position),
+                ..*self
+            }
         }
     }
 
     fn decided(&self, position: u8, commits: bool) -> SignedPair {
-        if position as usize >= POSITIONS {
+        let Some(position) = Position::new(position) else {
             return *self;
-        }
-        if has(contrary(*self, commits), position) {
+        };
+        if self.contrary(commits).has(position) {
             // It asked for the other ending: no choice is left.
+            let first = Positions { bits: 1 };
             return SignedPair {
-                committing: 1,
-                aborting: 1,
+                committing: first,
+                aborting: first,
             };
         }
         SignedPair {
-            committing: close(self.committing, position),
-            aborting: close(self.aborting, position),
+            committing: self.committing.closed_up(position),
+            aborting: self.aborting.closed_up(position),
         }
     }
 
     fn impossible(&self) -> bool {
-        self.committing & self.aborting != 0
+        self.committing.bits & self.aborting.bits != 0
     }
 
     fn holds(&self, choice: u8) -> bool {
-        if choice >= CHOICES {
-            return false;
-        }
-        if choice & self.committing != self.committing {
-            return false;
-        }
-        choice & self.aborting == 0
+        choice < CHOICES
+            && choice & self.committing.bits == self.committing.bits
+            && choice & self.aborting.bits == 0
     }
 
     fn verdicts(&self) -> u64 {
-        masked(self.committing, true) & masked(self.aborting, false)
+        self.committing.mask(true) & self.aborting.mask(false)
     }
 }

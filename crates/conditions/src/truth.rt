@@ -1,22 +1,17 @@
-ghost use Rattle.std.specs.Prelude.{◌≡◌, ℕ, ◌^◌, ◌<◌, Bool, true, false};
-ghost use Rattle.conditions.specs.Choices.{positions, bit};
-ghost use Rattle.conditions.specs.Meanings.{everywhere, narrowing, deciding, nowhere};
+#![tactic(auto, using(crate::proofs::TruthSets::meanings))]
+
+ghost use Rattle.conditions.specs.Choices.{positions};
 ghost use Rattle.conditions.specs.Kinds.{in_set};
 ghost use borrow.Author.Rules.{rules};
 
-use crate::choices::{CHOICES, POSITIONS, mask, origin};
+use crate::choices::CHOICES;
 use crate::condition::Condition;
+use crate::positions::Position;
 
 // A condition that keeps its verdicts, one bit for each choice.
 #[derive(Clone, Copy)]
 pub struct TruthSet {
     verdicts: u64,
-}
-
-fn contains(verdicts: u64, choice: u8) -> bool
-    ensures { result ≡ in_set positions verdicts choice }
-{
-    choice < CHOICES && (verdicts >> choice) & 1 == 1
 }
 
 impl Condition for TruthSet {
@@ -29,24 +24,21 @@ impl Condition for TruthSet {
     }
 
     fn narrowed(&self, position: u8, commits: bool) -> TruthSet {
-        if position as usize >= POSITIONS {
+        let Some(position) = Position::new(position) else {
             return *self;
-        }
+        };
         TruthSet {
-            verdicts: self.verdicts & mask(position, commits),
+            verdicts: self.verdicts & position.mask(commits),
         }
     }
 
     fn decided(&self, position: u8, commits: bool) -> TruthSet {
-        if position as usize >= POSITIONS {
+        let Some(position) = Position::new(position) else {
             return *self;
-        }
-        let mut verdicts = 0u64;
-        for choice in 0..CHOICES {
-            if contains(self.verdicts, origin(position, commits, choice)) {
-                verdicts |= 1u64 << choice;
-            }
-        }
+        };
+        let verdicts = (0..CHOICES)
+            .filter(|choice| self.holds(position.origin(commits, *choice)))
+            .fold(0u64, |verdicts, choice| verdicts | 1u64 << choice);
         TruthSet { verdicts }
     }
 
@@ -55,7 +47,7 @@ impl Condition for TruthSet {
     }
 
     fn holds(&self, choice: u8) -> bool {
-        contains(self.verdicts, choice)
+        choice < CHOICES && (self.verdicts >> choice) & 1 == 1
     }
 
     fn verdicts(&self) -> u64 {

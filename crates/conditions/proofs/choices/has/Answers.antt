@@ -1,5 +1,0 @@
-use Rattle.conditions.proofs.Bits.{bit_read}
-use Rattle.conditions.proofs.choices.has.Goals as goal
-
-pub returns : goal.returns
-returns c = search bit_read
