@@ -1,12 +1,12 @@
 -- What an update leaves of one line, and how many lines of all.
-use Rattle.std.proofs.Common.{◌≡◌, ◌+◌, ◌≤◌, Bool, true, false, cond, List, [], ◌∷◌, ◌++◌, map, length, sym, refl, ap, ◌∙◌, arith}
+use Rattle.std.proofs.Common.{◌≡◌, ◌+◌, ◌≤◌, Bool, true, false, cond, not, List, [], ◌∷◌, ◌++◌, map, length, sym, refl, ap, ◌∙◌, arith}
 use Rattle.std.specs.List.{flat_map}
 use Rattle.std.proofs.lemmas.List.{length-append, length-map}
 use Rattle.std.proofs.lemmas.Bool.Decides.{nat_tests}
 use Rattle.conditions.specs.Choices.{positions}
 use Rattle.conditions.proofs.Meaning.{half_nowhere}
 use Rattle.book.specs.Lines.{Fact, impossible, kept}
-use Rattle.book.specs.Writes.{Rewrite, rewritten, original, copy, stay_line, extra_line, split_lines, updated_lines}
+use Rattle.book.specs.Writes.{Rewrite, rewritten, original, copy, forked, stay_line, extra_line, split_lines, updated_lines}
 
 module _ (u : Rewrite) (f : Fact) where
   -- a line that is not touched
@@ -54,9 +54,15 @@ length_updated u fs =
     length-append (map (stay_line u) (flat_map kept fs)) (flat_map (extra_line u) (flat_map kept fs))
     ∙ (λ t. length-map (flat_map kept fs) (stay_line u) t + length (sym (joined_kept u fs) t))
 
--- one at most for each line
+-- one, where it forks
+pub forked_one : (u : Rewrite) (f : Fact) → length (extra_line u f) ≡ cond (forked u f) 1 0
+forked_one u f = grind arith
+
+pub kept_one : (f : Fact) → length (kept f) ≡ cond (not (impossible f)) 1 0
+kept_one f = grind arith
+
 one_added : (u : Rewrite) (f : Fact) → length (extra_line u f) ≤ 1
-one_added u f = grind (arith, nat_tests)
+one_added u f = grind arith
 
 few_added : (u : Rewrite) (fs : List Fact) → length (flat_map (extra_line u) fs) ≤ length fs
 few_added u [] = omega arith

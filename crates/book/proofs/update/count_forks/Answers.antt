@@ -1,18 +1,16 @@
-use Rattle.std.proofs.Common.{◌≡◌, ◌<◌, length, arith}
+use Rattle.std.proofs.Common.{◌∙◌, rules}
+use Rattle.std.proofs.lemmas.Iterator.{YieldsList-from_slice}
+use Rattle.std.proofs.lemmas.Iterator.Consumers.{count_from_yields_List, YieldsList-from_filter}
 use Rattle.book.specs.Lines.{seen}
-use Rattle.book.specs.Writes.{rewrite, extra_line}
-use Rattle.book.proofs.Making.{made_more}
+use Rattle.book.specs.Writes.{rewrite, forked, extra_line}
+use Rattle.book.proofs.Making.{made_count}
+use Rattle.book.proofs.Updating.{forked_one}
 use Rattle.book.proofs.update.count_forks.Goals as goal
-use Rattle.book.proofs.update.count_forks.Goals.{then-forks, else-forks}
-
-pub loop-at-preserved : goal.loop-at-preserved
-loop-at-preserved g c =
-    let lt : c.loop-at.at < length c.args.lines.now = omega arith in
-    let more = made_more (seen g.C.Condition.meaning) (extra_line (rewrite c.args.update)) c.args.lines.now c.loop-at.at c.index-lines-at.result lt c.index-lines-at.is in
-    elim c.if-forks.branch [
-      | then-forks w ↦ (omega (arith, w.if-forks.ensures, w.count-is), omega (arith, w.count-is))
-      | else-forks w ↦ (omega (arith, w.if-forks.ensures, w.count-is), omega (arith, w.count-is))
-    ]
 
 pub returns : goal.returns
-returns g c = let e : c.loop-at.at ≡ c.args.used = omega arith in rw e at c.loop-at.invariant.0
+returns g c =
+    let m = g.C.Condition.meaning in
+    let u = rewrite c.args.update.now in
+    count_from_yields_List c.filter.result _ c.count.ensures.ran
+    (YieldsList-from_filter _ (λ l. forked u (seen m l)) (YieldsList-from_slice c.args.lines.now (cc)) c.filter.ensures.closure (λ l b q k. search rules))
+    ∙ made_count (seen m) (extra_line u) (forked u) (forked_one u) c.args.lines.now
