@@ -1,7 +1,6 @@
 -- From the outcome of a call to what its contract says.
-use Rattle.std.proofs.Common.{◌≡◌, ℕ, ◌+◌, ◌<◌, ◌≤◌, min, Bool, true, List, [], ◌∷◌, ◌++◌, map, length, take, drop, set, Ok, Err, sym, refl, ap, ◌∙◌, subst, ⊎_elim, arith}
-use Rattle.std.proofs.lemmas.List.{length-map, length-take, take_all, take_more_set, map_push}
-use Rattle.std.proofs.lemmas.Bool.{cases_lt}
+use Rattle.std.proofs.Common.{◌≡◌, ℕ, ◌≤◌, max, Bool, true, List, length, drop, Ok, Err, sym, refl, ap, ◌∙◌, subst, arith}
+use Rattle.std.proofs.lemmas.List.{length-take}
 use Rattle.book.specs.declared.lines.Lines.{Lines}
 use Rattle.book.specs.declared.book.Book.{Book}
 use Rattle.book.specs.declared.faults.BookFault.{BookFault}

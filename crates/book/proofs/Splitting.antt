@@ -1,5 +1,6 @@
 -- A loop that changes each element of a list where it stands, and may write one more into the room behind.
-use Rattle.std.proofs.Common.{◌≡◌, ℕ, ◌+◌, ◌<◌, ◌≤◌, List, [], ◌∷◌, ◌++◌, map, length, get_or, take, drop, set, sym, refl, ap, ◌∙◌, append-nil, arith}
+use Rattle.std.proofs.Common.{◌≡◌, ℕ, ◌+◌, ◌<◌, ◌≤◌, max, List, [], ◌∷◌, ◌++◌, map, length, get_or, take, drop, set, sym, refl, ap, ◌∙◌, append-nil, arith}
+use Rattle.std.proofs.Math.Seq.{take-append-add, drop-append-add}
 use Rattle.std.specs.List.{flat_map}
 use Rattle.std.proofs.lemmas.List.{length-append, length-map, length-set, length-take-le, take-append-drop, take_more_set, take_all, map_push, map-append, drop-set-lt}
 use Rattle.std.proofs.lemmas.List.Concat.{flat_map-append, flat_map_single}
@@ -67,3 +68,13 @@ module _ {X Y : Type 0} {v : X → Y} {s : Y → Y} {e : Y → List Y} {xs xs' y
           room = omega (arith, length-set ys' k w, h.room);
           beyond = drop-set-lt (k + 1) ys' k w (omega arith) ∙ drop_further k (k + 1) ys' ys (omega arith) h.beyond;
         }
+
+-- a list that is put together of a part of n elements and the rest, k places into the rest
+module _ {X : Type 0} (xs ys : List X) (n k : ℕ) (long : length xs ≡ n) where
+  pub take_past : take (n + k) (xs ++ ys) ≡ xs ++ take k ys
+  take_past = ap (λ n. take (n + k) (xs ++ ys)) (sym long) ∙ take-append-add xs ys k
+
+  pub drop_past : drop (max n (n + k)) (xs ++ ys) ≡ drop k ys
+  drop_past =
+      let at : max n (n + k) ≡ length xs + k = omega arith in
+      ap (λ n. drop n (xs ++ ys)) at ∙ drop-append-add xs ys k

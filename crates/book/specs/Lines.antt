@@ -33,6 +33,10 @@ impossible f = nowhere positions f.meaning
 abbrev pub kept : Fact → List Fact
 kept f = cond (impossible f) [] (f ∷ [])
 
+-- a line, where the transaction at position i ends as s
+abbrev pub ending : ℕ → Bool → Fact → Fact
+ending i s f = record { table = f.table; row = f.row; meaning = narrowing positions i s f.meaning }
+
 -- a line that holds when the transaction at position i commits
 abbrev pub inserted_line : ℕ → ℕ → Row → Fact
 inserted_line i table row = record { table = table; row = row; meaning = narrowing positions i true (everywhere positions) }

@@ -6,15 +6,11 @@ use Rattle.conditions.specs.Meanings.{narrowing}
 use Rattle.book.specs.declared.row.Row.{Row}
 use Rattle.book.specs.declared.update.Update.{Update}
 use Rattle.book.specs.Filters.{passes_checked, changed_checked}
-use Rattle.book.specs.Lines.{Fact, impossible, kept}
+use Rattle.book.specs.Lines.{Fact, impossible, kept, ending}
 
 -- a line of the table whose row passes
 abbrev pub touched : ℕ → (Row → Bool) → Fact → Bool
 touched table passing f = f.table == table && passing f.row
-
--- a line, where the transaction at position i ends as s
-abbrev pub ending : ℕ → Bool → Fact → Fact
-ending i s f = record { table = f.table; row = f.row; meaning = narrowing positions i s f.meaning }
 
 -- Delete: a line that passes holds where the transaction aborts; whatever is impossible is dropped
 abbrev pub deleted_line : ℕ → ℕ → (Row → Bool) → Fact → List Fact

@@ -143,13 +143,10 @@ impl<'a, C: Condition> Book<'a, C> {
         check_table(table)?;
         let filter = filter.check()?;
         self.lines.retain_map(|line| {
-            if line.table != table || !filter.passes(line.row) {
-                return possible(line);
+            if line.table == table && filter.passes(line.row) {
+                return possible(line.ending(position, false));
             }
-            possible(Line {
-                condition: line.condition.narrowed(position, false),
-                ..line
-            })
+            possible(line)
         });
         Ok(self.len())
     }

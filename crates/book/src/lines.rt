@@ -14,7 +14,7 @@ pub(crate) struct Lines<'a, C> {
 }
 
 impl<'a, C: Condition> Lines<'a, C> {
-    ghost use Rattle.std.specs.Prelude.{◌≡◌, ℕ, [], ◌∷◌, ◌++◌, List, map, MatchOption, nat_le};
+    ghost use Rattle.std.specs.Prelude.{◌≡◌, ℕ, ◌<◌, [], ◌∷◌, ◌++◌, List, map, MatchOption, nat_le};
     ghost use Rattle.std.specs.List.{flat_map};
     ghost use Rattle.book.specs.Lines.{Fact, seen, kept};
     ghost use Rattle.book.specs.Writes.{rewrite, updated_lines, split_lines};
@@ -76,12 +76,12 @@ impl<'a, C: Condition> Lines<'a, C> {
 
     // Whether the memory has room for what an update makes of the lines, of which so many are possible.
     // It adds no more than are possible, so those that it adds are counted only where they might not fit.
-    fn has_room(&self, possible: usize, update: &Update) -> bool
-        requires { possible ≡ length (flat_map kept (in_use C.Condition.meaning self.now)) }
+    fn has_room(&self, count: usize, update: &Update) -> bool
+        requires { count ≡ length (flat_map kept (in_use C.Condition.meaning self.now)) }
         ensures { result ≡ nat_le (length (updated_lines (rewrite update.now) (in_use C.Condition.meaning self.now))) (length self.now.memory.now) }
     {
-        let room = self.memory.len() - possible;
-        possible <= room || count_forks(self.as_slice(), update) <= room
+        let room = self.memory.len() - count;
+        count <= room || count_forks(self.as_slice(), update) <= room
     }
 
     // Drops impossible lines. Where all are possible, nothing is to be moved.
@@ -99,9 +99,9 @@ impl<'a, C: Condition> Lines<'a, C> {
         ensures { Became C.Condition.meaning (split_lines (rewrite update.now) (in_use C.Condition.meaning self.old)) self.old self.new }
     {
         let used = self.used;
-        let (lines, room) = self.memory.split_at_mut(used);
-        let added = split(lines, room, update);
-        self.used = used + added;
+        let memory = &mut *self.memory;
+        let (lines, room) = memory.split_at_mut(used);
+        self.used += split(lines, room, update);
     }
 
     // Updates the lines; none where they would outnumber the memory.

@@ -1,7 +1,7 @@
 ghost use Rattle.std.specs.Prelude.{◌≡◌, ◌≤◌, true, not, length, map, drop};
 ghost use Rattle.std.specs.List.{flat_map};
-ghost use Rattle.book.specs.Lines.{seen, shown, facts, impossible};
-ghost use Rattle.book.specs.Writes.{ending, rewrite, rewritten, original, copy, forked, stay_line, extra_line};
+ghost use Rattle.book.specs.Lines.{seen, shown, facts, impossible, ending};
+ghost use Rattle.book.specs.Writes.{rewrite, rewritten, original, copy, forked, stay_line, extra_line};
 
 use crate::change::Change;
 use crate::filter::Filter;
@@ -29,10 +29,7 @@ impl Update {
     fn aborting<C: Condition>(&self, line: &Line<C>) -> Line<C>
         ensures { seen C.Condition.meaning result ≡ original (rewrite self.now) (seen C.Condition.meaning line.now) }
     {
-        Line {
-            condition: line.condition.narrowed(self.position, false),
-            ..*line
-        }
+        line.ending(self.position, false)
     }
 
     // Its copy with the changed row, where the transaction commits.
@@ -41,8 +38,7 @@ impl Update {
     {
         Line {
             row: self.change.apply(line.row),
-            condition: line.condition.narrowed(self.position, true),
-            ..*line
+            ..line.ending(self.position, true)
         }
     }
 
@@ -50,7 +46,10 @@ impl Update {
     fn survives<C: Condition>(&self, line: &Line<C>, commits: bool) -> bool
         ensures { not result ≡ impossible (ending self.now.position commits (seen C.Condition.meaning line.now)) }
     {
-        !line.condition.narrowed(self.position, commits).impossible()
+        !line
+            .ending(self.position, commits)
+            .condition
+            .impossible()
     }
 
     // Whether an update makes two lines of this one.

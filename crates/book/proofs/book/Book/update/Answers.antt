@@ -1,0 +1,74 @@
+use Rattle.std.proofs.Common.{◌≡◌, ℕ, Bool, List, length, not, sym, refl, ap, subst, inl, inr, arith}
+use Rattle.std.proofs.lemmas.Bool.{lt-ltb, le-ltb}
+use Rattle.std.proofs.lemmas.Result.{err_from_is_err_and}
+use Rattle.book.specs.declared.faults.BookFault.TheVariants.{BadChange}
+use Rattle.book.specs.declared.row.Row.{Row}
+use Rattle.book.specs.Lines.{Fact}
+use Rattle.book.specs.Writes.{updated_lines}
+use Rattle.book.specs.Calls.{rewrite_of}
+use Rattle.book.specs.Books.{state}
+use Rattle.book.specs.Memory.{Became}
+use Rattle.book.proofs.Using.{used_is}
+use Rattle.book.proofs.Grounds.{check_passed, check_value, ok_or_told}
+use Rattle.book.proofs.Meanings.{position_below, update_writes}
+use Rattle.book.proofs.Plainly.{update_is_plain, update_leaves_possible}
+use Rattle.book.proofs.Calling.{stopped, performed, held_few}
+use Rattle.book.proofs.book.Book.update.Goals as goal
+
+-- updates that say the same leave the same lines
+same_update : (table : ℕ) (fs : List Fact) {i j : ℕ} {p q : Row → Bool} {f h : Row → Row} → i ≡ j → p ≡ q → f ≡ h
+    → updated_lines (record { position = i; table = table; passing = p; changing = f }) fs ≡ updated_lines (record { position = j; table = table; passing = q; changing = h }) fs
+same_update table fs x y z = λ t. updated_lines (record { position = x t; table = table; passing = y t; changing = z t }) fs
+
+pub returns-in_err-change : goal.returns-in_err-change
+returns-in_err-change g c =
+    let p = err_from_is_err_and c.from_residual-in_err-change.result c.from_residual-in_err-change.ensures.1 in
+    let t = c.in_err-change.ensures in
+    rw (p.1, p.2)
+    (stopped g.C.Condition.meaning refl
+    (inr (
+      check_passed _ _ c.in_ok-position.ensures,
+      inr (
+        check_passed _ _ c.in_ok-check_table.ensures,
+        inr (ap not c.in_ok-filter.ensures.0, inl (ap not t.0, sym (ap BadChange t.1))),
+      ),
+    )))
+
+pub returns-in_err-ok_or : goal.returns-in_err-ok_or
+returns-in_err-ok_or g c =
+    let m = g.C.Condition.meaning in
+    let s = state m c.args.self.now in
+    let f = c.in_ok-filter.ensures in
+    let h = c.in_ok-change.ensures in
+    let full = rw c.in_err-ok_or.ensures.ok_part at c.update.ensures in
+    let p = err_from_is_err_and c.from_residual-in_err-ok_or.result c.from_residual-in_err-ok_or.ensures.1 in
+    let lines = same_update c.args.table s.lines (check_value _ _ c.in_ok-position.ensures) f.1 h.1 in
+    rw (p.1, p.2, full.0)
+    (stopped m refl
+    (inr (
+      check_passed _ _ c.in_ok-position.ensures,
+      inr (
+        check_passed _ _ c.in_ok-check_table.ensures,
+        inr (ap not f.0, inr (ap not h.0, inl (lt-ltb _ _ (omega (arith, full.1, ap length lines)), ok_or_told c.update.result c.in_err-ok_or.ensures.value))),
+      ),
+    )))
+
+pub returns : goal.returns
+returns g c =
+    let m = g.C.Condition.meaning in
+    let b = c.args.self.now in
+    let s = state m b in
+    let n = c.args.number in
+    let f = c.in_ok-filter.ensures in
+    let h = c.in_ok-change.ensures in
+    let u = rewrite_of n c.args.table c.args.filter c.args.change s in
+    let pending = check_passed _ _ c.in_ok-position.ensures in
+    let wrote : Became m (updated_lines u s.lines) b.lines c.update.new.self =
+    subst (λ fs. Became m fs b.lines c.update.new.self)
+    (same_update c.args.table s.lines (check_value _ _ c.in_ok-position.ensures) f.1 h.1)
+    (rw c.in_ok-ok_or.ensures.ok_part at c.update.ensures) in
+    let fits = le-ltb _ _ (omega (arith, ap length wrote.lines, used_is m c.update.new.self, c.update.new.self.within, wrote.size)) in
+    performed m (pending, (check_passed _ _ c.in_ok-check_table.ensures, (ap not f.0, (ap not h.0, (fits, tt)))))
+    wrote c.len.ensures.count refl refl
+    (λ _. update_leaves_possible u s.lines)
+    (record { writes = update_writes n s (position_below n s pending (held_few b.pending)) u refl; reordered = update_is_plain u s.lines })
