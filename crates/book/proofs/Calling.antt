@@ -10,7 +10,7 @@ use Rattle.book.specs.Numbers.{held}
 use Rattle.book.specs.Lines.{Fact}
 use Rattle.book.specs.Memory.{in_use, Became}
 use Rattle.book.specs.Calls.{State, Effect, accepted}
-use Rattle.book.specs.Books.{Possible, state, reach, Called, Performed, Answered}
+use Rattle.book.specs.Books.{Possible, state, Called, Performed, Answered}
 use Rattle.book.proofs.Using.{used_is}
 use Rattle.book.proofs.Grounds.{Clear, Stops, clear, stops, rising, told}
 

@@ -1,6 +1,7 @@
 -- The lines in use.
-use Rattle.std.proofs.Common.{◌≡◌, ℕ, ◌≤◌, min, max, Bool, List, length, take, ◌∙◌, arith}
+use Rattle.std.proofs.Common.{◌≡◌, ℕ, ◌≤◌, min, max, Bool, false, nat_lt, List, length, take, ap, ◌∙◌, arith}
 use Rattle.std.specs.List.{flat_map}
+use Rattle.std.proofs.lemmas.Bool.{le-ltb}
 use Rattle.std.proofs.lemmas.List.{length-map, length-take}
 use Rattle.book.specs.declared.line.Line.{Line}
 use Rattle.book.specs.declared.lines.Lines.{Lines}
@@ -20,6 +21,10 @@ module _ {C : Type 0} (m : C → ℕ → Bool) where
   -- the possible ones are no more than the memory has room for
   pub possible_fit : (ls : Lines C) → length (flat_map kept (in_use m ls)) ≤ length ls.memory.now
   possible_fit ls = omega (arith, kept_fewer (in_use m ls), used_is ls, ls.within)
+
+  -- lines that are in use did not outnumber the memory
+  pub room_found : {fs : List Fact} {a b : Lines C} → Became m fs a b → nat_lt (length a.memory.now) (length fs) ≡ false
+  room_found {fs} {a} {b} wrote = le-ltb _ _ (omega (arith, ap length wrote.lines, used_is b, b.within, wrote.size))
 
   -- one write after another that left no more lines than there were
   pub became_then : (a b c : Lines C) {fs gs : List Fact} → Became m fs a b → Became m gs b c → b.used ≤ a.used → Became m gs a c

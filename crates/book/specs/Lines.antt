@@ -1,5 +1,5 @@
 -- Lines as they are meant.
-use Rattle.std.specs.Prelude.{ℕ, Bool, true, cond, List, [], ◌∷◌, map, take, Some, None, Option}
+use Rattle.std.specs.Prelude.{◌≡◌, ℕ, Bool, true, cond, List, [], ◌∷◌, map, take, Some, None, Option}
 use Rattle.conditions.specs.Choices.{positions}
 use Rattle.conditions.specs.Meanings.{everywhere, narrowing, deciding, nowhere}
 use Rattle.book.specs.declared.row.Row.{Row}
@@ -24,6 +24,10 @@ module _ {C : Type 0} (m : C → ℕ → Bool) where
   abbrev pub shown : Option (Line C) → List Fact
   shown None = []
   shown (Some l) = seen l ∷ []
+
+  -- what a step answers for a line is what becomes of it as it is meant
+  abbrev pub Makes : (Line C → Option (Line C) → Type 0) → (Fact → List Fact) → Type 0
+  Makes answers becomes = (l : Line C) (r : Option (Line C)) → answers l r → becomes (seen l) ≡ shown r
 
 -- in no choice
 abbrev pub impossible : Fact → Bool

@@ -1,5 +1,5 @@
 -- Lines in lent memory.
-use Rattle.std.specs.Prelude.{◌≡◌, ℕ, max, Bool, List, length, drop}
+use Rattle.std.specs.Prelude.{◌≡◌, ℕ, ◌<◌, max, Bool, List, length, drop, Some, None, Option}
 use Rattle.book.specs.declared.lines.Lines.{Lines}
 use Rattle.book.specs.Lines.{Fact, facts}
 
@@ -19,3 +19,8 @@ module _ {C : Type 0} (m : C → ℕ → Bool) where
     pub size : length b.memory.now ≡ length a.memory.now
     pub beyond : drop (max a.used b.used) b.memory.now ≡ drop (max a.used b.used) a.memory.now
     pub lender : b.memory.ghost_name ≡ a.memory.ghost_name
+
+  -- A write that leaves fs, where there is room for them; where there is none, it writes nothing and says so.
+  abbrev pub Fitted : List Fact → Lines C → Lines C → Option (Unit {0}) → Type 0
+  Fitted fs a b (Some _) = Became fs a b
+  Fitted fs a b None = (length a.memory.now < length fs) × (b ≡ a)

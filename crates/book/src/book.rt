@@ -13,7 +13,6 @@ use crate::lines::Lines;
 use crate::numbers::after;
 use crate::pending::Pending;
 use crate::row::Row;
-use crate::steps::possible;
 use crate::tables::count_rows;
 use crate::update::Update;
 use crate::vote::{Vote, first_choices, orphans, vote_against};
@@ -125,12 +124,7 @@ impl<'a, C: Condition> Book<'a, C> {
     {
         let position = self.position(number)?;
         check_table(table)?;
-        let condition = C::always().narrowed(position, true);
-        let line = Line {
-            table,
-            row,
-            condition,
-        };
+        let line = Line::inserted(position, table, row);
         self.lines.push(line).ok_or(BookFault::NoRoom)?;
         Ok(self.len())
     }
@@ -144,9 +138,9 @@ impl<'a, C: Condition> Book<'a, C> {
         let filter = filter.check()?;
         self.lines.retain_map(|line| {
             if line.table == table && filter.passes(line.row) {
-                return possible(line.ending(position, false));
+                return line.ending(position, false).possible();
             }
-            possible(line)
+            line.possible()
         });
         Ok(self.len())
     }
@@ -184,10 +178,8 @@ impl<'a, C: Condition> Book<'a, C> {
         let position = self.position(number)?;
         let commits = word == 1;
         self.lines.retain_map(|line| {
-            possible(Line {
-                condition: line.condition.decided(position, commits),
-                ..line
-            })
+            let condition = line.condition.decided(position, commits);
+            Line { condition, ..line }.possible()
         });
         self.pending.remove(number);
         Ok(self.len())

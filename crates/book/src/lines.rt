@@ -1,8 +1,8 @@
 ghost use Rattle.std.specs.Prelude.{◌≤◌, length};
 
 use crate::line::Line;
-use crate::steps::{compact, count_possible, possible};
-use crate::update::{Update, count_forks, split};
+use crate::steps::compact;
+use crate::update::Update;
 use conditions::Condition;
 
 // Lines in lent memory: those in use stand in its first places.
@@ -14,22 +14,18 @@ pub(crate) struct Lines<'a, C> {
 }
 
 impl<'a, C: Condition> Lines<'a, C> {
-    ghost use Rattle.std.specs.Prelude.{◌≡◌, ℕ, ◌<◌, [], ◌∷◌, ◌++◌, List, map, MatchOption, nat_le};
+    ghost use Rattle.std.specs.Prelude.{◌≡◌, ℕ, [], ◌∷◌, ◌++◌, List, map, nat_le};
     ghost use Rattle.std.specs.List.{flat_map};
-    ghost use Rattle.book.specs.Lines.{Fact, seen, kept};
+    ghost use Rattle.book.specs.Lines.{Fact, seen, kept, Makes};
     ghost use Rattle.book.specs.Writes.{rewrite, updated_lines, split_lines};
-    ghost use Rattle.book.specs.Steps.{Makes};
-    ghost use Rattle.book.specs.Memory.{in_use, Became};
+    ghost use Rattle.book.specs.Memory.{in_use, Became, Fitted};
 
     pub(crate) fn none(memory: &'a mut [Line<C>]) -> Lines<'a, C>
         ensures none { in_use C.Condition.meaning result ≡ [] }
         ensures same { result.memory.now ≡ memory.old }
         ensures lender { result.memory.ghost_name ≡ memory.entry.ghost_name }
     {
-        Lines {
-            memory,
-            used: 0,
-        }
+        Lines { memory, used: 0 }
     }
 
     pub(crate) fn len(&self) -> usize
@@ -54,9 +50,7 @@ impl<'a, C: Condition> Lines<'a, C> {
 
     // Adds a line behind those in use; none where there is no room for it.
     pub(crate) fn push(&mut self, line: Line<C>) -> Option<()>
-        ensures { MatchOption result
-            ((self.new ≡ self.old) × (self.old.used ≡ length self.old.memory.now))
-            (λ _. Became C.Condition.meaning (in_use C.Condition.meaning self.old ++ seen C.Condition.meaning line ∷ []) self.old self.new) }
+        ensures { Fitted C.Condition.meaning (in_use C.Condition.meaning self.old ++ seen C.Condition.meaning line ∷ []) self.old self.new result }
     {
         if self.used >= self.memory.len() {
             return None;
@@ -74,6 +68,15 @@ impl<'a, C: Condition> Lines<'a, C> {
         self.used = compact(&mut self.memory[..self.used], step);
     }
 
+    fn count_possible(&self) -> usize
+        ensures { result ≡ length (flat_map kept (in_use C.Condition.meaning self.now)) }
+    {
+        self.as_slice()
+            .iter()
+            .filter(|line| !line.condition.impossible())
+            .count()
+    }
+
     // Whether the memory has room for what an update makes of the lines, of which so many are possible.
     // It adds no more than are possible, so those that it adds are counted only where they might not fit.
     fn has_room(&self, count: usize, update: &Update) -> bool
@@ -81,16 +84,16 @@ impl<'a, C: Condition> Lines<'a, C> {
         ensures { result ≡ nat_le (length (updated_lines (rewrite update.now) (in_use C.Condition.meaning self.now))) (length self.now.memory.now) }
     {
         let room = self.memory.len() - count;
-        count <= room || count_forks(self.as_slice(), update) <= room
+        count <= room || update.count_forks(self.as_slice()) <= room
     }
 
-    // Drops impossible lines. Where all are possible, nothing is to be moved.
+    // Drops impossible lines. Where all are possible, as the count says, nothing is to be moved.
     fn clear(&mut self, count: usize)
         requires { count ≡ length (flat_map kept (in_use C.Condition.meaning self.old)) }
         ensures { Became C.Condition.meaning (flat_map kept (in_use C.Condition.meaning self.old)) self.old self.new }
     {
         if count < self.used {
-            self.retain_map(possible);
+            self.retain_map(Line::possible);
         }
     }
 
@@ -99,18 +102,17 @@ impl<'a, C: Condition> Lines<'a, C> {
         ensures { Became C.Condition.meaning (split_lines (rewrite update.now) (in_use C.Condition.meaning self.old)) self.old self.new }
     {
         let used = self.used;
+        // Lent under a name: of a field that is lent in parts only the length stays known.
         let memory = &mut *self.memory;
         let (lines, room) = memory.split_at_mut(used);
-        self.used += split(lines, room, update);
+        self.used += update.split(lines, room);
     }
 
-    // Updates the lines; none where they would outnumber the memory.
+    // Updates the lines; none where there is no room for what they become.
     pub(crate) fn update(&mut self, update: &Update) -> Option<()>
-        ensures { MatchOption result
-            ((self.new ≡ self.old) × (length self.old.memory.now < length (updated_lines (rewrite update.now) (in_use C.Condition.meaning self.old))))
-            (λ _. Became C.Condition.meaning (updated_lines (rewrite update.now) (in_use C.Condition.meaning self.old)) self.old self.new) }
+        ensures { Fitted C.Condition.meaning (updated_lines (rewrite update.now) (in_use C.Condition.meaning self.old)) self.old self.new result }
     {
-        let count = count_possible(self.as_slice());
+        let count = self.count_possible();
         if !self.has_room(count, update) {
             return None;
         }

@@ -1,28 +1,9 @@
-ghost use Rattle.std.specs.Prelude.{◌≡◌, ℕ, ◌≤◌, List, length, map, drop};
+ghost use Rattle.std.specs.Prelude.{◌≡◌, ℕ, ◌≤◌, List, length, map};
 ghost use Rattle.std.specs.List.{flat_map};
-ghost use Rattle.book.specs.Lines.{Fact, seen, shown, facts, kept};
-ghost use Rattle.book.specs.Steps.{Makes};
+ghost use Rattle.book.specs.Lines.{Fact, seen, facts, Makes};
 
 use crate::line::Line;
 use conditions::Condition;
-
-pub(crate) fn possible<C: Condition>(line: Line<C>) -> Option<Line<C>>
-    ensures { kept (seen C.Condition.meaning line) ≡ shown C.Condition.meaning result }
-{
-    if line.condition.impossible() {
-        return None;
-    }
-    Some(line)
-}
-
-pub(crate) fn count_possible<C: Condition>(lines: &[Line<C>]) -> usize
-    ensures { result ≡ length (flat_map kept (map (seen C.Condition.meaning) lines.now)) }
-{
-    lines
-        .iter()
-        .filter(|line| !line.condition.impossible())
-        .count()
-}
 
 // Keeps what the step makes of each line in the first places, and says how many there are.
 // A counted loop: it writes behind the place it reads, which no iterator lends.

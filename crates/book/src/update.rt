@@ -1,12 +1,11 @@
 ghost use Rattle.std.specs.Prelude.{◌≡◌, ◌≤◌, true, not, length, map, drop};
 ghost use Rattle.std.specs.List.{flat_map};
 ghost use Rattle.book.specs.Lines.{seen, shown, facts, impossible, ending};
-ghost use Rattle.book.specs.Writes.{rewrite, rewritten, original, copy, forked, stay_line, extra_line};
+ghost use Rattle.book.specs.Writes.{rewrite, rewritten, copy, forked, stay_line, extra_line};
 
 use crate::change::Change;
 use crate::filter::Filter;
 use crate::line::Line;
-use crate::steps::possible;
 use conditions::Condition;
 
 // An update of one table by the transaction at a position.
@@ -25,14 +24,7 @@ impl Update {
         line.table == self.table && self.filter.passes(line.row)
     }
 
-    // The line where the transaction aborts.
-    fn aborting<C: Condition>(&self, line: &Line<C>) -> Line<C>
-        ensures { seen C.Condition.meaning result ≡ original (rewrite self.now) (seen C.Condition.meaning line.now) }
-    {
-        line.ending(self.position, false)
-    }
-
-    // Its copy with the changed row, where the transaction commits.
+    // A copy with the changed row, where the transaction commits.
     fn committing<C: Condition>(&self, line: &Line<C>) -> Line<C>
         ensures { seen C.Condition.meaning result ≡ copy (rewrite self.now) (seen C.Condition.meaning line.now) }
     {
@@ -46,10 +38,7 @@ impl Update {
     fn survives<C: Condition>(&self, line: &Line<C>, commits: bool) -> bool
         ensures { not result ≡ impossible (ending self.now.position commits (seen C.Condition.meaning line.now)) }
     {
-        !line
-            .ending(self.position, commits)
-            .condition
-            .impossible()
+        !line.ending(self.position, commits).condition.impossible()
     }
 
     // Whether an update makes two lines of this one.
@@ -59,49 +48,45 @@ impl Update {
         self.touches(line) && self.survives(line, false) && self.survives(line, true)
     }
 
+    // How many lines an update adds.
+    pub(crate) fn count_forks<C: Condition>(&self, lines: &[Line<C>]) -> usize
+        ensures { result ≡ length (flat_map (extra_line (rewrite self.now)) (map (seen C.Condition.meaning) lines.now)) }
+    {
+        lines.iter().filter(|line| self.forks(line)).count()
+    }
+
     // What stands in the place of a line that is touched, and what is added behind all lines.
-    fn split<C: Condition>(&self, line: &Line<C>) -> (Line<C>, Option<Line<C>>)
+    fn split_line<C: Condition>(&self, line: &Line<C>) -> (Line<C>, Option<Line<C>>)
         requires { rewritten (rewrite self.now) (seen C.Condition.meaning line.now) ≡ true }
         ensures stays { seen C.Condition.meaning result.0 ≡ stay_line (rewrite self.now) (seen C.Condition.meaning line.now) }
         ensures added { shown C.Condition.meaning result.1 ≡ extra_line (rewrite self.now) (seen C.Condition.meaning line.now) }
     {
         let copy = self.committing(line);
-        match possible(self.aborting(line)) {
+        match line.ending(self.position, false).possible() {
             None => (copy, None),
-            Some(original) => (original, possible(copy)),
+            Some(original) => (original, copy.possible()),
         }
     }
-}
 
-// How many lines an update adds.
-pub(crate) fn count_forks<C: Condition>(lines: &[Line<C>], update: &Update) -> usize
-    ensures { result ≡ length (flat_map (extra_line (rewrite update.now)) (map (seen C.Condition.meaning) lines.now)) }
-{
-    lines.iter().filter(|line| update.forks(line)).count()
-}
-
-// Replaces each line that is touched where it stands, puts the other copies into the room behind, and says how many.
-pub(crate) fn split<C: Condition>(
-    lines: &mut [Line<C>],
-    room: &mut [Line<C>],
-    update: &Update,
-) -> usize
-    requires { length (flat_map (extra_line (rewrite update.now)) (map (seen C.Condition.meaning) lines.old)) ≤ length room.old }
-    ensures stay { map (seen C.Condition.meaning) lines.new ≡ map (stay_line (rewrite update.now)) (map (seen C.Condition.meaning) lines.old) }
-    ensures within { result ≤ length room.old }
-    ensures added { facts C.Condition.meaning result room.new ≡ flat_map (extra_line (rewrite update.now)) (map (seen C.Condition.meaning) lines.old) }
-    ensures beyond { drop result room.new ≡ drop result room.old }
-{
-    let mut added = 0;
-    for line in lines.iter_mut() {
-        if update.touches(line) {
-            let (stays, copy) = update.split(line);
-            *line = stays;
-            if let Some(copy) = copy {
-                room[added] = copy;
-                added += 1;
+    // Replaces each line that is touched where it stands, puts the other copies into the room behind, and says how many.
+    pub(crate) fn split<C: Condition>(&self, lines: &mut [Line<C>], room: &mut [Line<C>]) -> usize
+        requires { length (flat_map (extra_line (rewrite self.now)) (map (seen C.Condition.meaning) lines.old)) ≤ length room.old }
+        ensures stay { map (seen C.Condition.meaning) lines.new ≡ map (stay_line (rewrite self.now)) (map (seen C.Condition.meaning) lines.old) }
+        ensures within { result ≤ length room.old }
+        ensures added { facts C.Condition.meaning result room.new ≡ flat_map (extra_line (rewrite self.now)) (map (seen C.Condition.meaning) lines.old) }
+        ensures beyond { drop result room.new ≡ drop result room.old }
+    {
+        let mut added = 0;
+        for line in lines.iter_mut() {
+            if self.touches(line) {
+                let (stays, copy) = self.split_line(line);
+                *line = stays;
+                if let Some(copy) = copy {
+                    room[added] = copy;
+                    added += 1;
+                }
             }
         }
+        added
     }
-    added
 }

@@ -1,5 +1,4 @@
-use Rattle.book.specs.Lines.{seen}
-use Rattle.book.specs.Steps.{Makes}
+use Rattle.book.specs.Lines.{seen, Makes}
 use Rattle.book.proofs.Compacting.{Compacting}
 use Rattle.book.proofs.steps.compact.Given as goal
 

@@ -1,5 +1,5 @@
 use Rattle.std.proofs.Common.{◌≡◌, ℕ, Bool, List, length, not, sym, refl, ap, subst, inl, inr, arith}
-use Rattle.std.proofs.lemmas.Bool.{lt-ltb, le-ltb}
+use Rattle.std.proofs.lemmas.Bool.{lt-ltb}
 use Rattle.std.proofs.lemmas.Result.{err_from_is_err_and}
 use Rattle.book.specs.declared.faults.BookFault.TheVariants.{BadChange}
 use Rattle.book.specs.declared.row.Row.{Row}
@@ -8,7 +8,7 @@ use Rattle.book.specs.Writes.{updated_lines}
 use Rattle.book.specs.Calls.{rewrite_of}
 use Rattle.book.specs.Books.{state}
 use Rattle.book.specs.Memory.{Became}
-use Rattle.book.proofs.Using.{used_is}
+use Rattle.book.proofs.Using.{room_found}
 use Rattle.book.proofs.Grounds.{check_passed, check_value, ok_or_told}
 use Rattle.book.proofs.Meanings.{position_below, update_writes}
 use Rattle.book.proofs.Plainly.{update_is_plain, update_leaves_possible}
@@ -43,13 +43,13 @@ returns-in_err-ok_or g c =
     let full = rw c.in_err-ok_or.ensures.ok_part at c.update.ensures in
     let p = err_from_is_err_and c.from_residual-in_err-ok_or.result c.from_residual-in_err-ok_or.ensures.1 in
     let lines = same_update c.args.table s.lines (check_value _ _ c.in_ok-position.ensures) f.1 h.1 in
-    rw (p.1, p.2, full.0)
+    rw (p.1, p.2, full.1)
     (stopped m refl
     (inr (
       check_passed _ _ c.in_ok-position.ensures,
       inr (
         check_passed _ _ c.in_ok-check_table.ensures,
-        inr (ap not f.0, inr (ap not h.0, inl (lt-ltb _ _ (omega (arith, full.1, ap length lines)), ok_or_told c.update.result c.in_err-ok_or.ensures.value))),
+        inr (ap not f.0, inr (ap not h.0, inl (lt-ltb _ _ (omega (arith, full.0, ap length lines)), ok_or_told c.update.result c.in_err-ok_or.ensures.value))),
       ),
     )))
 
@@ -67,8 +67,7 @@ returns g c =
     subst (λ fs. Became m fs b.lines c.update.new.self)
     (same_update c.args.table s.lines (check_value _ _ c.in_ok-position.ensures) f.1 h.1)
     (rw c.in_ok-ok_or.ensures.ok_part at c.update.ensures) in
-    let fits = le-ltb _ _ (omega (arith, ap length wrote.lines, used_is m c.update.new.self, c.update.new.self.within, wrote.size)) in
-    performed m (pending, (check_passed _ _ c.in_ok-check_table.ensures, (ap not f.0, (ap not h.0, (fits, tt)))))
+    performed m (pending, (check_passed _ _ c.in_ok-check_table.ensures, (ap not f.0, (ap not h.0, (room_found m wrote, tt)))))
     wrote c.len.ensures.count refl refl
     (λ _. update_leaves_possible u s.lines)
     (record { writes = update_writes n s (position_below n s pending (held_few b.pending)) u refl; reordered = update_is_plain u s.lines })
