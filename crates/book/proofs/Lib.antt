@@ -4,6 +4,7 @@ pub mod Compacting
 pub mod Counting
 pub mod Grounds
 pub mod Possibly
+pub mod Using
 pub mod Calling
 pub mod Making
 pub mod Splitting

@@ -8,9 +8,9 @@ use Rattle.conditions.specs.Choices.{positions, bit, same, source}
 use Rattle.conditions.specs.Meanings.{everywhere, narrowing, deciding}
 use Rattle.conditions.proofs.Meaning.{nowhere_decides}
 use Rattle.book.specs.declared.row.Row.{Row}
-use Rattle.book.specs.Lines.{Fact, impossible, kept, inserted_line, decided_line}
+use Rattle.book.specs.Lines.{Fact, impossible, kept, inserted_line, decided_line, ending}
 use Rattle.book.specs.Tables.{stands, rows}
-use Rattle.book.specs.Writes.{Rewrite, touched, ending, deleted_line, rewritten, original, copy, plainly_updated}
+use Rattle.book.specs.Writes.{Rewrite, touched, deleted_line, rewritten, original, copy, plainly_updated}
 
 module _ (t c : ℕ) where
   -- what one line shows

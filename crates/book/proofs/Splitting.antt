@@ -1,125 +1,80 @@
--- A loop that changes each of the first places of a list, and may write one more element behind all.
-use Rattle.std.proofs.Common.{◌≡◌, ℕ, ◌+◌, ◌<◌, ◌≤◌, List, [], ◌∷◌, ◌++◌, map, length, get_or, take, drop, set, sym, refl, ap, ◌∙◌, subst, arith}
-use lib.Seq.{take-set-lt, set-get_or}
+-- A loop that changes each element of a list where it stands, and may write one more into the room behind.
+use Rattle.std.proofs.Common.{◌≡◌, ℕ, ◌+◌, ◌<◌, ◌≤◌, max, List, [], ◌∷◌, ◌++◌, map, length, get_or, take, drop, set, sym, refl, ap, ◌∙◌, append-nil, arith}
+use Rattle.std.proofs.Math.Seq.{take-append-add, drop-append-add}
 use Rattle.std.specs.List.{flat_map}
-use Rattle.std.proofs.lemmas.List.{append-nil, append_assoc, length-append, length-set, length-map, length-take-le, length-drop, take_all, drop_all, take_more, take_more_set, drop_more, map-set, map_push, map_more, flat_map_more, set-append_left, set_at, get_or_append_left, get_or_at, get_or-map, get_or-take, take-append-drop, drop-set-lt}
+use Rattle.std.proofs.lemmas.List.{length-append, length-map, length-set, length-take-le, take-append-drop, take_more_set, take_all, map_push, map-append, drop-set-lt}
+use Rattle.std.proofs.lemmas.List.Concat.{flat_map-append, flat_map_single}
 use Rattle.book.proofs.Dropping.{drop_further}
+use Rattle.book.proofs.Compacting.{Compacting, compacting_keep, made_more}
 
-pub joined_append : {X Y : Type 0} (f : X → List Y) (xs ys : List X) → flat_map f (xs ++ ys) ≡ flat_map f xs ++ flat_map f ys
-joined_append f [] ys = refl
-joined_append f (x ∷ xs) ys = ap (λ l. f x ++ l) (joined_append f xs ys) ∙ sym (append_assoc (f x) (flat_map f xs) (flat_map f ys))
+-- xs' began as xs, and the first i of it are changed by s. What e makes of them stands in the first k places of ys', which
+-- is ys beyond
+pub record Splitting {X Y : Type 0} (v : X → Y) (s : Y → Y) (e : Y → List Y) (xs xs' ys ys' : List X) (k i : ℕ) : Type 0 where
+  pub stay : Compacting v (λ f. f ≡ (λ y. s y ∷ [])) xs xs' i i
+  pub added : map v (take k ys') ≡ flat_map e (map v (take i xs))
+  pub within : k ≤ length ys'
+  pub room : length (flat_map e (map v xs)) ≤ length ys'
+  pub beyond : drop k ys' ≡ drop k ys
 
-module _ {Y : Type 0} (s : Y → Y) (e : Y → List Y) (fs : List Y) where
-  -- the first i are done
-  abbrev pub split_at : ℕ → List Y
-  split_at i = (map s (take i fs) ++ drop i fs) ++ flat_map e (take i fs)
+module _ {X Y : Type 0} {v : X → Y} {s : Y → Y} {e : Y → List Y} {xs xs' ys ys' : List X} {k i : ℕ} where
+  pub splitting_all : Splitting v s e xs xs' ys ys' k i → length xs ≤ i
+      → (map v xs' ≡ map s (map v xs)) × (map v (take k ys') ≡ flat_map e (map v xs))
+  splitting_all h le =
+      let all = take_all i xs le in (
+        ap (map v) (sym (take_all i xs' (omega (arith, h.stay.long)))) ∙ h.stay.front _ refl ∙ ap (λ l. flat_map (λ y. s y ∷ []) (map v l)) all ∙ flat_map_single s (map v xs),
+        h.added ∙ ap (λ l. flat_map e (map v l)) all,
+      )
 
-  module _ (i : ℕ) (d : Y) (h : i < length fs) where
-    front_long : length (map s (take i fs)) ≡ i
-    front_long = length-map (take i fs) s ∙ length-take-le i fs (omega arith)
+module _ {X Y : Type 0} {v : X → Y} {s : Y → Y} {e : Y → List Y} {xs xs' ys ys' : List X} {k i : ℕ}
+    (h : Splitting v s e xs xs' ys ys' k i) (lt : i < length xs') {x : X} (is : x ≡ get_or xs' i x) where
+  more : flat_map e (map v (take (i + 1) xs)) ≡ map v (take k ys') ++ e (v x)
+  more = made_more v xs xs' h.stay.rest h.stay.long lt is e ∙ ap (λ l. l ++ e (v x)) (sym h.added)
 
-    opened : map s (take i fs) ++ drop i fs ≡ map s (take i fs) ++ get_or fs i d ∷ drop (i + 1) fs
-    opened = ap (λ l. map s (take i fs) ++ l) (drop_more fs i d h)
-
-    longer : i < length (map s (take i fs) ++ drop i fs)
-    longer = omega (arith, length-append (map s (take i fs)) (drop i fs), length-drop i fs, front_long)
-
-    pub split_read : get_or (split_at i) i d ≡ get_or fs i d
-    split_read = get_or_append_left (map s (take i fs) ++ drop i fs) (flat_map e (take i fs)) d i longer ∙ ap (λ l. get_or l i d) opened ∙ get_or_at (map s (take i fs)) (get_or fs i d) (drop (i + 1) fs) d i front_long
-
-    pub split_set : set (split_at i) i (s (get_or fs i d)) ++ e (get_or fs i d) ≡ split_at (i + 1)
-    split_set =
-        ap (λ l. l ++ e (get_or fs i d)) (set-append_left (map s (take i fs) ++ drop i fs) (flat_map e (take i fs)) i (s (get_or fs i d)) longer
-        ∙ ap (λ l. l ++ flat_map e (take i fs))
-        (ap (λ l. set l i (s (get_or fs i d))) opened ∙ set_at (map s (take i fs)) (get_or fs i d) (drop (i + 1) fs) (s (get_or fs i d)) i front_long
-        ∙ sym (append_assoc (map s (take i fs)) (s (get_or fs i d) ∷ []) (drop (i + 1) fs)) ∙ ap (λ l. l ++ drop (i + 1) fs) (sym (map_more s fs i d h))))
-        ∙ append_assoc (map s (take (i + 1) fs) ++ drop (i + 1) fs) (flat_map e (take i fs)) (e (get_or fs i d))
-        ∙ ap (λ l. (map s (take (i + 1) fs) ++ drop (i + 1) fs) ++ l) (flat_map_more e [] (take i fs) (get_or fs i d) ∙ ap (flat_map e) (sym (take_more fs i d h)))
-
-  pub split_all : (i : ℕ) → length fs ≤ i → split_at i ≡ map s fs ++ flat_map e fs
-  split_all i h =
-      ap (λ l. (map s l ++ drop i fs) ++ flat_map e l) (take_all i fs h)
-      ∙ ap (λ l. (map s fs ++ l) ++ flat_map e fs) (drop_all i fs h)
-      ∙ ap (λ l. l ++ flat_map e fs) (append-nil (map s fs))
-
--- what e makes of some is no more than what it makes of all
-module _ {Y : Type 0} (e : Y → List Y) (fs : List Y) (i : ℕ) where
-  pub joined_part : length (flat_map e (take i fs)) ≤ length (flat_map e fs)
-  joined_part =
-      let is : flat_map e fs ≡ flat_map e (take i fs) ++ flat_map e (drop i fs) = ap (flat_map e) (sym (take-append-drop i fs)) ∙ joined_append e (take i fs) (drop i fs) in
-      omega (arith, ap length is, length-append (flat_map e (take i fs)) (flat_map e (drop i fs)))
-
-  pub joined_step : (d : Y) → i < length fs → flat_map e (take (i + 1) fs) ≡ flat_map e (take i fs) ++ e (get_or fs i d)
-  joined_step d h = ap (flat_map e) (take_more fs i d h) ∙ sym (flat_map_more e [] (take i fs) (get_or fs i d))
-
--- ys began as xs; it is as far as the first i of n, and ends at k
-pub record Splitting {X Y : Type 0} (v : X → Y) (s : Y → Y) (e : Y → List Y) (fs : List Y) (n : ℕ) (xs ys : List X) (k i : ℕ) : Type 0 where
-  pub lines : map v (take k ys) ≡ split_at s e fs i
-  pub long : length fs ≡ n
-  pub behind : i ≤ n
-  pub count : k ≡ n + length (flat_map e (take i fs))
-  pub room : n + length (flat_map e fs) ≤ length ys
-  pub beyond : drop k ys ≡ drop k xs
-
-module _ {X Y : Type 0} {v : X → Y} {s : Y → Y} {e : Y → List Y} {fs : List Y} {n : ℕ} {xs ys : List X} {k i : ℕ}
-    (h : Splitting v s e fs n xs ys k i) (lt : i < n) {x : X} (is : x ≡ get_or ys i x) where
-  past : n ≤ k
-  past = omega (arith, h.count)
-
-  within : k ≤ length ys
-  within = omega (arith, h.count, h.room, joined_part e fs i)
-
-  is_fact : get_or fs i (v x) ≡ v x
-  is_fact =
-      sym (split_read s e fs i (v x) (omega (arith, h.long))) ∙ ap (λ l. get_or l i (v x)) (sym h.lines)
-      ∙ get_or-map v (take k ys) i x (v x) (omega (arith, length-take-le k ys within, past)) ∙ ap v (get_or-take k ys i x (omega (arith, past)) ∙ sym is)
-
-  more : flat_map e (take (i + 1) fs) ≡ flat_map e (take i fs) ++ e (v x)
-  more = joined_step e fs i (v x) (omega (arith, h.long)) ∙ ap (λ y. flat_map e (take i fs) ++ e y) is_fact
-
-  more_one : (z : Y) → e (v x) ≡ z ∷ [] → length (flat_map e (take (i + 1) fs)) ≡ length (flat_map e (take i fs)) + 1
-  more_one z adds = ap length (more ∙ ap (λ l. flat_map e (take i fs) ++ l) adds) ∙ length-append (flat_map e (take i fs)) (z ∷ [])
-
-  pub splitting_room : (z : Y) → e (v x) ≡ z ∷ [] → k < length ys
-  splitting_room z adds = omega (arith, more_one z adds, joined_part e fs (i + 1), h.count, h.room)
+  -- there is room for what is added
+  pub splitting_room : (z : Y) → e (v x) ≡ z ∷ [] → k < length ys'
+  splitting_room z adds =
+      let n = i + 1 in
+      let parts : map v xs ≡ map v (take n xs) ++ map v (drop n xs) = ap (map v) (sym (take-append-drop n xs)) ∙ map-append v (take n xs) (drop n xs) in
+      let whole : flat_map e (map v xs) ≡ flat_map e (map v (take n xs)) ++ flat_map e (map v (drop n xs)) = ap (flat_map e) parts ∙ flat_map-append e (map v (take n xs)) (map v (drop n xs)) in
+      omega (
+        arith,
+        ap length whole,
+        length-append (flat_map e (map v (take n xs))) (flat_map e (map v (drop n xs))),
+        ap length (more ∙ ap (λ l. map v (take k ys') ++ l) adds),
+        length-append (map v (take k ys')) (z ∷ []),
+        length-map (take k ys') v,
+        length-take-le k ys' h.within,
+        h.room,
+        h.within,
+      )
 
   module _ (z : X) (stays : v z ≡ s (v x)) where
-    written : map v (take k (set ys i z)) ≡ set (split_at s e fs i) i (s (get_or fs i (v x)))
-    written =
-        ap (map v) (take-set-lt k ys i z (omega (arith, past))) ∙ map-set v (take k ys) i z
-        ∙ (λ t. set (h.lines t) i ((stays ∙ ap s (sym is_fact)) t))
-
-    stepped : (new : List Y) → e (v x) ≡ new → map v (take k (set ys i z)) ++ new ≡ split_at s e fs (i + 1)
-    stepped new adds =
-        (λ t. written t ++ (sym adds ∙ ap e (sym is_fact)) t) ∙ split_set s e fs i (v x) (omega (arith, h.long))
-
-    after : drop k (set ys i z) ≡ drop k xs
-    after = drop-set-lt k ys i z (omega (arith, past)) ∙ h.beyond
-
-    pub splitting_none : e (v x) ≡ [] → Splitting v s e fs n xs (set ys i z) k (i + 1)
+    pub splitting_none : e (v x) ≡ [] → Splitting v s e xs (set xs' i z) ys ys' k (i + 1)
     splitting_none adds = record {
-      lines = sym (append-nil _) ∙ stepped [] adds;
-      long = h.long;
-      behind = omega arith;
-      count = h.count ∙ ap (λ l. n + length l) (sym (more ∙ ap (λ l. flat_map e (take i fs) ++ l) adds ∙ append-nil (flat_map e (take i fs))));
-      room = omega (arith, length-set ys i z, h.room);
-      beyond = after;
+      stay = compacting_keep h.stay lt is z (λ f e. ap (λ f. f (v x)) e ∙ ap (λ y. y ∷ []) (sym stays));
+      added = sym (more ∙ ap (λ l. map v (take k ys') ++ l) adds ∙ append-nil (map v (take k ys')));
+      within = h.within;
+      room = h.room;
+      beyond = h.beyond;
     }
 
-    pub splitting_one : (w : X) → e (v x) ≡ v w ∷ [] → Splitting v s e fs n xs (set (set ys i z) k w) (k + 1) (i + 1)
+    pub splitting_one : (w : X) → e (v x) ≡ v w ∷ [] → Splitting v s e xs (set xs' i z) ys (set ys' k w) (k + 1) (i + 1)
     splitting_one w adds =
-        let room : k < length (set ys i z) = omega (arith, splitting_room (v w) adds, length-set ys i z) in
+        let room = splitting_room (v w) adds in
         record {
-          lines = ap (map v) (take_more_set (set ys i z) k w room) ∙ map_push v (take k (set ys i z)) w ∙ stepped (v w ∷ []) adds;
-          long = h.long;
-          behind = omega arith;
-          count = omega (arith, h.count, more_one (v w) adds);
-          room = omega (arith, length-set (set ys i z) k w, length-set ys i z, h.room);
-          beyond = drop-set-lt (k + 1) (set ys i z) k w (omega arith) ∙ drop_further k (k + 1) (set ys i z) xs (omega arith) after;
+          stay = compacting_keep h.stay lt is z (λ f e. ap (λ f. f (v x)) e ∙ ap (λ y. y ∷ []) (sym stays));
+          added = ap (map v) (take_more_set ys' k w room) ∙ map_push v (take k ys') w ∙ sym (more ∙ ap (λ l. map v (take k ys') ++ l) adds);
+          within = omega (arith, length-set ys' k w);
+          room = omega (arith, length-set ys' k w, h.room);
+          beyond = drop-set-lt (k + 1) ys' k w (omega arith) ∙ drop_further k (k + 1) ys' ys (omega arith) h.beyond;
         }
 
-  -- nothing is written
-  pub splitting_same : s (v x) ≡ v x → e (v x) ≡ [] → Splitting v s e fs n xs ys k (i + 1)
-  splitting_same stays adds =
-      let same : set ys i x ≡ ys = ap (set ys i) is ∙ set-get_or ys i x in
-      subst (λ zs. Splitting v s e fs n xs zs k (i + 1)) same (splitting_none x (sym stays) adds)
+-- a list that is put together of a part of n elements and the rest, k places into the rest
+module _ {X : Type 0} (xs ys : List X) (n k : ℕ) (long : length xs ≡ n) where
+  pub take_past : take (n + k) (xs ++ ys) ≡ xs ++ take k ys
+  take_past = ap (λ n. take (n + k) (xs ++ ys)) (sym long) ∙ take-append-add xs ys k
+
+  pub drop_past : drop (max n (n + k)) (xs ++ ys) ≡ drop k ys
+  drop_past =
+      let at : max n (n + k) ≡ length xs + k = omega arith in
+      ap (λ n. drop n (xs ++ ys)) at ∙ drop-append-add xs ys k

@@ -1,12 +1,12 @@
 -- What an update leaves of one line, and how many lines of all.
-use Rattle.std.proofs.Common.{◌≡◌, ◌+◌, ◌≤◌, Bool, true, false, cond, List, [], ◌∷◌, ◌++◌, map, length, sym, refl, ap, ◌∙◌, arith}
+use Rattle.std.proofs.Common.{◌≡◌, ◌+◌, ◌≤◌, Bool, true, false, cond, not, List, [], ◌∷◌, ◌++◌, map, length, sym, refl, ap, ◌∙◌, arith}
 use Rattle.std.specs.List.{flat_map}
 use Rattle.std.proofs.lemmas.List.{length-append, length-map}
-use Rattle.std.proofs.lemmas.Bool.Decides.{nat_tests}
 use Rattle.conditions.specs.Choices.{positions}
 use Rattle.conditions.proofs.Meaning.{half_nowhere}
 use Rattle.book.specs.Lines.{Fact, impossible, kept}
-use Rattle.book.specs.Writes.{Rewrite, rewritten, original, copy, stay_line, extra_line, split_lines, updated_lines}
+use Rattle.book.proofs.Making.{made_fewer}
+use Rattle.book.specs.Writes.{Rewrite, rewritten, original, copy, forked, stay_line, extra_line, split_lines, updated_lines}
 
 module _ (u : Rewrite) (f : Fact) where
   -- a line that is not touched
@@ -54,31 +54,31 @@ length_updated u fs =
     length-append (map (stay_line u) (flat_map kept fs)) (flat_map (extra_line u) (flat_map kept fs))
     ∙ (λ t. length-map (flat_map kept fs) (stay_line u) t + length (sym (joined_kept u fs) t))
 
--- one at most for each line
-one_added : (u : Rewrite) (f : Fact) → length (extra_line u f) ≤ 1
-one_added u f = grind (arith, nat_tests)
+-- one, where it forks
+pub forked_one : (u : Rewrite) (f : Fact) → length (extra_line u f) ≡ cond (forked u f) 1 0
+forked_one u f = grind arith
 
-few_added : (u : Rewrite) (fs : List Fact) → length (flat_map (extra_line u) fs) ≤ length fs
-few_added u [] = omega arith
-few_added u (f ∷ fs) = omega (arith, length-append (extra_line u f) (flat_map (extra_line u) fs), one_added u f, few_added u fs)
+pub kept_one : (f : Fact) → length (kept f) ≡ cond (not (impossible f)) 1 0
+kept_one f = grind arith
+
+one_added : (u : Rewrite) (f : Fact) → length (extra_line u f) ≤ 1
+one_added u f = grind arith
 
 pub few_more : (u : Rewrite) (fs : List Fact) → length (flat_map (extra_line u) fs) ≤ length (flat_map kept fs)
-few_more u fs = omega (arith, ap length (joined_kept u fs), few_added u (flat_map kept fs))
+few_more u fs = omega (arith, ap length (joined_kept u fs), made_fewer (extra_line u) (one_added u) (flat_map kept fs))
 
-kept_fewer : (fs : List Fact) → length (flat_map kept fs) ≤ length fs
-kept_fewer [] = omega arith
-kept_fewer (f ∷ fs) = go (impossible f) (kept_fewer fs)
-  where
-    go : (b : Bool) → length (flat_map kept fs) ≤ length fs → length (cond b [] (f ∷ []) ++ flat_map kept fs) ≤ length (f ∷ fs)
-    go true h = omega arith
-    go false h = omega arith
+kept_once : (f : Fact) → length (kept f) ≤ 1
+kept_once f = grind arith
 
--- where as many are kept, all are
-pub kept_all : (fs : List Fact) → length (flat_map kept fs) ≡ length fs → flat_map kept fs ≡ fs
+pub kept_fewer : (fs : List Fact) → length (flat_map kept fs) ≤ length fs
+kept_fewer = made_fewer kept kept_once
+
+-- where no fewer are kept, all are
+pub kept_all : (fs : List Fact) → length fs ≤ length (flat_map kept fs) → flat_map kept fs ≡ fs
 kept_all [] e = refl
 kept_all (f ∷ fs) e = go (impossible f) e (kept_all fs)
   where
-    go : (b : Bool) → length (cond b [] (f ∷ []) ++ flat_map kept fs) ≡ length (f ∷ fs) → (length (flat_map kept fs) ≡ length fs → flat_map kept fs ≡ fs)
+    go : (b : Bool) → length (f ∷ fs) ≤ length (cond b [] (f ∷ []) ++ flat_map kept fs) → (length fs ≤ length (flat_map kept fs) → flat_map kept fs ≡ fs)
         → cond b [] (f ∷ []) ++ flat_map kept fs ≡ f ∷ fs
     go true e rest = absurd (omega (arith, kept_fewer fs))
     go false e rest = ap (λ l. f ∷ l) (rest (omega arith))

@@ -4,7 +4,8 @@ use Rattle.std.specs.List.{AllByRecursion}
 use Rattle.book.specs.declared.book.Book.{Book}
 use Rattle.book.specs.declared.faults.BookFault.{BookFault}
 use Rattle.book.specs.Numbers.{held}
-use Rattle.book.specs.Lines.{facts, impossible}
+use Rattle.book.specs.Lines.{impossible}
+use Rattle.book.specs.Memory.{in_use}
 use Rattle.book.specs.declared.vote.Vote.{Vote}
 use Rattle.book.specs.Votes.{Says}
 use Rattle.book.specs.Calls.{State, Effect, reply, after, Told, voted, speaks_against}
@@ -15,19 +16,19 @@ Possible s = AllByRecursion (λ f. impossible f ≡ false) s.lines
 
 -- over a kind of condition with the meaning m
 module _ {C : Type 0} (m : C → ℕ → Bool) where
-  -- a book as it is meant: the lines in use are the first of its memory
+  -- a book as it is meant
   abbrev pub state : Book C → State
   state b = record {
-    capacity = length b.lines.now;
+    capacity = length b.lines.memory.now;
     first = b.first;
     next = b.next;
     pending = held b.pending;
-    lines = facts m b.used b.lines.now;
+    lines = in_use m b.lines;
   }
 
   -- both stand on the memory of one lender
   abbrev pub SameMemory : Book C → Book C → Type 0
-  SameMemory a b = b.lines.ghost_name ≡ a.lines.ghost_name
+  SameMemory a b = b.lines.memory.ghost_name ≡ a.lines.memory.ghost_name
 
   -- the places that are in use in a or in b
   abbrev pub reach : Book C → Book C → ℕ
@@ -46,7 +47,7 @@ module _ {C : Type 0} (m : C → ℕ → Bool) where
     pub leaves : state b ≡ after e (state a)
     pub told : Told (e.grounds (state a)) r
     pub refused : (f : BookFault) → r ≡ Err f → b ≡ a
-    pub beyond : drop (reach a b) b.lines.now ≡ drop (reach a b) a.lines.now
+    pub beyond : drop (reach a b) b.lines.memory.now ≡ drop (reach a b) a.lines.memory.now
     pub possible : Possible (state a) → Possible (state b)
     pub lender : SameMemory a b
 

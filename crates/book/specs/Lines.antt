@@ -1,5 +1,5 @@
 -- Lines as they are meant.
-use Rattle.std.specs.Prelude.{ℕ, Bool, true, cond, List, [], ◌∷◌, map, take, Some, None, Option}
+use Rattle.std.specs.Prelude.{◌≡◌, ℕ, Bool, true, cond, List, [], ◌∷◌, map, take, Some, None, Option}
 use Rattle.conditions.specs.Choices.{positions}
 use Rattle.conditions.specs.Meanings.{everywhere, narrowing, deciding, nowhere}
 use Rattle.book.specs.declared.row.Row.{Row}
@@ -25,6 +25,10 @@ module _ {C : Type 0} (m : C → ℕ → Bool) where
   shown None = []
   shown (Some l) = seen l ∷ []
 
+  -- what a step answers for a line is what becomes of it as it is meant
+  abbrev pub Makes : (Line C → Option (Line C) → Type 0) → (Fact → List Fact) → Type 0
+  Makes answers becomes = (l : Line C) (r : Option (Line C)) → answers l r → becomes (seen l) ≡ shown r
+
 -- in no choice
 abbrev pub impossible : Fact → Bool
 impossible f = nowhere positions f.meaning
@@ -32,6 +36,10 @@ impossible f = nowhere positions f.meaning
 -- a line, unless it is impossible
 abbrev pub kept : Fact → List Fact
 kept f = cond (impossible f) [] (f ∷ [])
+
+-- a line, where the transaction at position i ends as s
+abbrev pub ending : ℕ → Bool → Fact → Fact
+ending i s f = record { table = f.table; row = f.row; meaning = narrowing positions i s f.meaning }
 
 -- a line that holds when the transaction at position i commits
 abbrev pub inserted_line : ℕ → ℕ → Row → Fact

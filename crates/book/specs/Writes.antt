@@ -1,21 +1,16 @@
 -- What becomes of the lines under a Delete or an Update.
-use Rattle.std.specs.Prelude.{◌≡◌, ℕ, ◌<◌, ◌≤◌, max, Bool, true, false, cond, ◌&&◌, List, [], ◌++◌, map, length, drop, Some, None, Option, ◌==◌}
+use Rattle.std.specs.Prelude.{ℕ, Bool, true, false, cond, not, ◌&&◌, List, [], ◌++◌, map, ◌==◌}
 use Rattle.std.specs.List.{flat_map}
 use Rattle.conditions.specs.Choices.{positions}
 use Rattle.conditions.specs.Meanings.{narrowing}
 use Rattle.book.specs.declared.row.Row.{Row}
-use Rattle.book.specs.declared.line.Line.{Line}
 use Rattle.book.specs.declared.update.Update.{Update}
 use Rattle.book.specs.Filters.{passes_checked, changed_checked}
-use Rattle.book.specs.Lines.{Fact, facts, impossible, kept}
+use Rattle.book.specs.Lines.{Fact, impossible, kept, ending}
 
 -- a line of the table whose row passes
 abbrev pub touched : ℕ → (Row → Bool) → Fact → Bool
 touched table passing f = f.table == table && passing f.row
-
--- a line, where the transaction at position i ends as s
-abbrev pub ending : ℕ → Bool → Fact → Fact
-ending i s f = record { table = f.table; row = f.row; meaning = narrowing positions i s f.meaning }
 
 -- Delete: a line that passes holds where the transaction aborts; whatever is impossible is dropped
 abbrev pub deleted_line : ℕ → ℕ → (Row → Bool) → Fact → List Fact
@@ -56,14 +51,12 @@ module _ (u : Rewrite) where
   abbrev pub extra_line : Fact → List Fact
   extra_line f = cond (rewritten f) (cond (impossible (original f)) [] (kept (copy f))) []
 
+  -- of which there is one where both are possible
+  abbrev pub forked : Fact → Bool
+  forked f = rewritten f && (not (impossible (original f)) && not (impossible (copy f)))
+
   unfoldable pub split_lines : List Fact → List Fact
   split_lines fs = map stay_line fs ++ flat_map extra_line fs
 
   unfoldable pub updated_lines : List Fact → List Fact
   updated_lines fs = split_lines (flat_map kept fs)
-
--- the lines fs are in the first places of b, and b is a beyond; or they are too many, and b is a
-module _ {C : Type 0} (m : C → ℕ → Bool) where
-  abbrev pub Updated : List Fact → ℕ → List (Line C) → List (Line C) → Option ℕ → Type 0
-  Updated fs used a b (Some n) = (n ≤ length a) × (facts m n b ≡ fs) × (drop (max used n) b ≡ drop (max used n) a)
-  Updated fs used a b None = (length a < length fs) × (b ≡ a)

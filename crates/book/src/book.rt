@@ -1,4 +1,4 @@
-ghost use Rattle.std.specs.Prelude.{◌≡◌, ℕ, ◌<◌, ◌≤◌, [], ◌∷◌, length, ◌==◌, slice_set};
+ghost use Rattle.std.specs.Prelude.{◌≡◌, ℕ, ◌≤◌, [], ◌∷◌, length, ◌==◌};
 ghost use Rattle.book.specs.Filters.{passes};
 ghost use Rattle.book.specs.Calls.{fresh, refusing, garbled, not_pending, no_table, bad_choice, bad_making, opened, inserted, deleted, updated, decided, counted, position};
 ghost use Rattle.book.specs.Lines.{facts};
@@ -9,23 +9,22 @@ use crate::change::RawChange;
 use crate::faults::BookFault;
 use crate::filter::RawFilter;
 use crate::line::Line;
+use crate::lines::Lines;
 use crate::numbers::after;
 use crate::pending::Pending;
 use crate::row::Row;
-use crate::steps::{Deciding, Deleting, compact};
 use crate::tables::count_rows;
-use crate::update::{Update, update_lines};
+use crate::update::Update;
 use crate::vote::{Vote, first_choices, orphans, vote_against};
 use conditions::Condition;
 
 // The most lines that a book can work with.
 const MOST_LINES: usize = 4096;
 
-// A change book over lent lines. Those in use stand in the first places of the memory.
+// A change book over lent lines.
 #[derive(Drop)]
 pub struct Book<'a, C> {
-    lines: &'a mut [Line<C>],
-    used: usize,
+    lines: Lines<'a, C>,
     first: u32,
     next: Option<u32>,
     pending: Pending,
@@ -59,23 +58,15 @@ fn check_word(word: u8) -> Result<(), BookFault>
     Ok(())
 }
 
-fn put<C: Condition>(lines: &mut [Line<C>], at: usize, line: Line<C>)
-    requires { at < length lines.old }
-    ensures { lines.new ≡ slice_set lines.old at line }
-{
-    lines[at] = line;
-}
-
 impl<'a, C: Condition> Book<'a, C> {
     // Any memory and number make a book; one that `check_making` refuses gives out no number.
     pub fn make(lines: &'a mut [Line<C>], first: u32) -> Book<'a, C>
         ensures made { state C.Condition.meaning result ≡ fresh (length lines.old) first }
-        ensures same { result.lines.now ≡ lines.old }
-        ensures lender { result.lines.ghost_name ≡ lines.entry.ghost_name }
+        ensures same { result.lines.memory.now ≡ lines.old }
+        ensures lender { result.lines.memory.ghost_name ≡ lines.entry.ghost_name }
     {
         Book {
-            lines,
-            used: 0,
+            lines: Lines::none(lines),
             first,
             next: Some(first),
             pending: Pending::none(),
@@ -85,10 +76,10 @@ impl<'a, C: Condition> Book<'a, C> {
     // How many lines are in use: they stand in the first places of the memory.
     pub fn len(&self) -> usize
         ensures count { result ≡ length (state C.Condition.meaning self.now).lines }
-        ensures first { facts C.Condition.meaning result self.now.lines.now ≡ (state C.Condition.meaning self.now).lines }
-        ensures within { result ≤ length self.now.lines.now }
+        ensures first { facts C.Condition.meaning result self.now.lines.memory.now ≡ (state C.Condition.meaning self.now).lines }
+        ensures within { result ≤ length self.now.lines.memory.now }
     {
-        self.used.min(self.lines.len())
+        self.lines.len()
     }
 
     fn position(&self, number: u32) -> Result<u8, BookFault>
@@ -119,7 +110,7 @@ impl<'a, C: Condition> Book<'a, C> {
         match self.next {
             None => Err(BookFault::NumbersSpent),
             Some(number) => {
-                check_making(self.lines.len(), self.first)?;
+                check_making(self.lines.capacity(), self.first)?;
                 self.pending.add(number);
                 self.next = after(number);
                 Ok(number)
@@ -133,19 +124,9 @@ impl<'a, C: Condition> Book<'a, C> {
     {
         let position = self.position(number)?;
         check_table(table)?;
-        let used = self.len();
-        if used >= self.lines.len() {
-            return Err(BookFault::NoRoom);
-        }
-        let condition = C::always().narrowed(position, true);
-        let line = Line {
-            table,
-            row,
-            condition,
-        };
-        put(self.lines, used, line);
-        self.used = used + 1;
-        Ok(used + 1)
+        let line = Line::inserted(position, table, row);
+        self.lines.push(line).ok_or(BookFault::NoRoom)?;
+        Ok(self.len())
     }
 
     // Narrows the lines of the table that pass to where the transaction aborts, and answers the lines now in use.
@@ -155,15 +136,13 @@ impl<'a, C: Condition> Book<'a, C> {
         let position = self.position(number)?;
         check_table(table)?;
         let filter = filter.check()?;
-        let used = self.len();
-        let deleting = Deleting {
-            position,
-            table,
-            filter,
-        };
-        let left = compact(self.lines, used, &deleting);
-        self.used = left;
-        Ok(left)
+        self.lines.retain_map(|line| {
+            if line.table == table && filter.passes(line.row) {
+                return line.ending(position, false).possible();
+            }
+            line.possible()
+        });
+        Ok(self.len())
     }
 
     // Gives each line of the table that passes a copy with the changed row, which holds where the transaction commits,
@@ -181,20 +160,14 @@ impl<'a, C: Condition> Book<'a, C> {
         check_table(table)?;
         let filter = filter.check()?;
         let change = change.check()?;
-        let used = self.len();
         let update = Update {
             position,
             table,
             filter,
             change,
         };
-        match update_lines(self.lines, used, update) {
-            None => Err(BookFault::NoRoom),
-            Some(end) => {
-                self.used = end;
-                Ok(end)
-            }
-        }
+        self.lines.update(&update).ok_or(BookFault::NoRoom)?;
+        Ok(self.len())
     }
 
     // Ends a transaction, word 1 for commit and 0 for abort, and answers the lines now in use.
@@ -203,15 +176,13 @@ impl<'a, C: Condition> Book<'a, C> {
     {
         check_word(word)?;
         let position = self.position(number)?;
-        let used = self.len();
-        let deciding = Deciding {
-            position,
-            commits: word == 1,
-        };
-        let left = compact(self.lines, used, &deciding);
-        self.used = left;
+        let commits = word == 1;
+        self.lines.retain_map(|line| {
+            let condition = line.condition.decided(position, commits);
+            Line { condition, ..line }.possible()
+        });
         self.pending.remove(number);
-        Ok(left)
+        Ok(self.len())
     }
 
     // How many distinct rows the table has under the choice.
@@ -220,8 +191,7 @@ impl<'a, C: Condition> Book<'a, C> {
     {
         check_table(table)?;
         self.check_choice(choice)?;
-        let used = self.len();
-        Ok(count_rows(&self.lines[0..used], table, choice))
+        Ok(count_rows(self.lines.as_slice(), table, choice))
     }
 
     // Whether the transaction can commit and leave no shot without its cue, however the others end.
@@ -229,9 +199,8 @@ impl<'a, C: Condition> Book<'a, C> {
         ensures { Polled C.Condition.meaning number self.now result }
     {
         let position = self.position(number)?;
-        let used = self.len();
         let committing = C::always().narrowed(position, true).verdicts();
         let choices = committing & first_choices(self.pending.choices());
-        Ok(vote_against(orphans(&self.lines[0..used], choices)))
+        Ok(vote_against(orphans(self.lines.as_slice(), choices)))
     }
 }

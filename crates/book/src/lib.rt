@@ -8,6 +8,7 @@ mod checks;
 mod faults;
 mod filter;
 mod line;
+mod lines;
 mod numbers;
 mod pending;
 mod row;

@@ -1,59 +1,28 @@
-use Rattle.std.proofs.Common.{◌≡◌, not, length, sym, refl, ap, ◌∙◌, inl, inr, arith}
+use Rattle.std.proofs.Common.{not, refl, ap, subst, rules}
 use Rattle.std.specs.List.{flat_map}
-use Rattle.std.proofs.lemmas.Result.{err_from_is_err_and}
-use Rattle.book.specs.declared.faults.BookFault.TheVariants.{BadFilter}
-use Rattle.book.specs.Filters.{passes}
-use Rattle.book.specs.Lines.{facts}
+use Rattle.book.specs.Filters.{passes, passes_checked}
 use Rattle.book.specs.Writes.{deleted_line}
 use Rattle.book.specs.Calls.{position, lines_deleted}
 use Rattle.book.specs.Books.{state}
-use Rattle.book.proofs.Grounds.{check_passed, check_failed, check_value}
+use Rattle.book.specs.Memory.{Became}
+use Rattle.book.proofs.Grounds.{check_passed, check_value}
 use Rattle.book.proofs.Meanings.{position_below, delete_writes}
-use Rattle.book.proofs.Calling.{stopped, performed, facts_count, held_few}
+use Rattle.book.proofs.Calling.{performed, held_few}
 use Rattle.book.proofs.Possibly.{deleted_possible}
 use Rattle.book.proofs.book.Book.delete.Goals as goal
-
-pub returns-in_err-position : goal.returns-in_err-position
-returns-in_err-position g c =
-    let p = err_from_is_err_and c.from_residual.result c.from_residual.ensures.1 in
-    rw (p.1, p.2) (stopped g.C.Condition.meaning refl (inl (check_failed _ _ c.in_err-position.ensures)))
-
-pub returns-in_err-check_table : goal.returns-in_err-check_table
-returns-in_err-check_table g c =
-    let p = err_from_is_err_and c.from_residual-in_err-check_table.result c.from_residual-in_err-check_table.ensures.1 in
-    rw (p.1, p.2)
-    (stopped g.C.Condition.meaning refl
-    (inr (check_passed _ _ c.in_ok-position.ensures, inl (check_failed _ _ c.in_err-check_table.ensures))))
-
-pub returns-in_err-filter : goal.returns-in_err-filter
-returns-in_err-filter g c =
-    let p = err_from_is_err_and c.from_residual-in_err-filter.result c.from_residual-in_err-filter.ensures.1 in
-    let t = c.in_err-filter.ensures in
-    rw (p.1, p.2)
-    (stopped g.C.Condition.meaning refl
-    (inr (
-      check_passed _ _ c.in_ok-position.ensures,
-      inr (check_passed _ _ c.in_ok-check_table.ensures, inl (ap not t.0, sym (ap BadFilter t.1))),
-    )))
 
 pub returns : goal.returns
 returns g c =
     let m = g.C.Condition.meaning in
     let b = c.args.self.now in
     let s = state m b in
-    let n = c.compact-left.result in
-    let ys = c.compact-left.new.lines in
-    let d = c.compact-left.ensures in
+    let at = position c.args.number s in
     let f = c.in_ok-filter.ensures in
     let pending = check_passed _ _ c.in_ok-position.ensures in
-    let long : length ys ≡ length b.lines.now = omega arith in
-    let leaves : facts m n ys ≡ lines_deleted c.args.number c.args.table c.args.filter s =
-    d.lines ∙ (λ t. flat_map (deleted_line (check_value _ _ c.in_ok-position.ensures t) c.args.table (f.1 t)) (c.len-used.ensures.first t)) in
-    performed m c.len-used.result
-    (pending, (check_passed _ _ c.in_ok-check_table.ensures, (ap not f.0, tt)))
-    (facts_count m n ys (omega arith) ∙ ap length leaves)
-    (λ t. record { capacity = long t; first = b.first; next = b.next; pending = s.pending; lines = leaves t })
-    (omega (arith, c.len-used.ensures.count)) d.beyond
-    (λ _. deleted_possible (position c.args.number s) c.args.table (passes c.args.filter) s.lines)
-    refl
+    let wrote : Became m (lines_deleted c.args.number c.args.table c.args.filter s) b.lines c.retain_map.new.self =
+    subst (λ fs. Became m fs b.lines c.retain_map.new.self) (λ t. flat_map (deleted_line (check_value _ _ c.in_ok-position.ensures t) c.args.table (f.1 t)) s.lines)
+    (c.retain_map.ensures (deleted_line c.in_ok-position.position c.args.table (passes_checked c.in_ok-filter.filter)) (λ l r k. search rules)) in
+    performed m (pending, (check_passed _ _ c.in_ok-check_table.ensures, (ap not f.0, tt)))
+    wrote c.len.ensures.count refl refl
+    (λ _. deleted_possible at c.args.table (passes c.args.filter) s.lines)
     (delete_writes c.args.number s (position_below c.args.number s pending (held_few b.pending)) c.args.table (passes c.args.filter))

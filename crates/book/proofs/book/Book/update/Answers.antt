@@ -1,39 +1,24 @@
-use Rattle.std.proofs.Common.{◌≡◌, max, not, length, sym, refl, ap, ◌∙◌, inl, inr, arith}
+use Rattle.std.proofs.Common.{◌≡◌, ℕ, Bool, List, length, not, sym, refl, ap, subst, inl, inr, arith}
+use Rattle.std.proofs.lemmas.Bool.{lt-ltb}
 use Rattle.std.proofs.lemmas.Result.{err_from_is_err_and}
-use Rattle.std.proofs.lemmas.Bool.{lt-ltb, le-ltb}
-use Rattle.book.specs.declared.faults.BookFault.TheVariants.{BadFilter, BadChange}
-use Rattle.book.specs.Lines.{facts}
+use Rattle.book.specs.declared.faults.BookFault.TheVariants.{BadChange}
+use Rattle.book.specs.declared.row.Row.{Row}
+use Rattle.book.specs.Lines.{Fact}
 use Rattle.book.specs.Writes.{updated_lines}
-use Rattle.book.specs.Calls.{rewrite_of, lines_updated}
+use Rattle.book.specs.Calls.{rewrite_of}
 use Rattle.book.specs.Books.{state}
-use Rattle.book.proofs.Grounds.{check_passed, check_failed, check_value}
+use Rattle.book.specs.Memory.{Became}
+use Rattle.book.proofs.Using.{room_found}
+use Rattle.book.proofs.Grounds.{check_passed, check_value, ok_or_told}
 use Rattle.book.proofs.Meanings.{position_below, update_writes}
 use Rattle.book.proofs.Plainly.{update_is_plain, update_leaves_possible}
-use Rattle.book.proofs.Calling.{stopped, performed, facts_count, held_few}
+use Rattle.book.proofs.Calling.{stopped, performed, held_few}
 use Rattle.book.proofs.book.Book.update.Goals as goal
 
-pub returns-in_err-position : goal.returns-in_err-position
-returns-in_err-position g c =
-    let p = err_from_is_err_and c.from_residual.result c.from_residual.ensures.1 in
-    rw (p.1, p.2) (stopped g.C.Condition.meaning refl (inl (check_failed _ _ c.in_err-position.ensures)))
-
-pub returns-in_err-check_table : goal.returns-in_err-check_table
-returns-in_err-check_table g c =
-    let p = err_from_is_err_and c.from_residual-in_err-check_table.result c.from_residual-in_err-check_table.ensures.1 in
-    rw (p.1, p.2)
-    (stopped g.C.Condition.meaning refl
-    (inr (check_passed _ _ c.in_ok-position.ensures, inl (check_failed _ _ c.in_err-check_table.ensures))))
-
-pub returns-in_err-filter : goal.returns-in_err-filter
-returns-in_err-filter g c =
-    let p = err_from_is_err_and c.from_residual-in_err-filter.result c.from_residual-in_err-filter.ensures.1 in
-    let t = c.in_err-filter.ensures in
-    rw (p.1, p.2)
-    (stopped g.C.Condition.meaning refl
-    (inr (
-      check_passed _ _ c.in_ok-position.ensures,
-      inr (check_passed _ _ c.in_ok-check_table.ensures, inl (ap not t.0, sym (ap BadFilter t.1))),
-    )))
+-- updates that say the same leave the same lines
+same_update : (table : ℕ) (fs : List Fact) {i j : ℕ} {p q : Row → Bool} {f h : Row → Row} → i ≡ j → p ≡ q → f ≡ h
+    → updated_lines (record { position = i; table = table; passing = p; changing = f }) fs ≡ updated_lines (record { position = j; table = table; passing = q; changing = h }) fs
+same_update table fs x y z = λ t. updated_lines (record { position = x t; table = table; passing = y t; changing = z t }) fs
 
 pub returns-in_err-change : goal.returns-in_err-change
 returns-in_err-change g c =
@@ -49,54 +34,40 @@ returns-in_err-change g c =
       ),
     )))
 
-pub returns-in-None : goal.returns-in-None
-returns-in-None g c =
+pub returns-in_err-ok_or : goal.returns-in_err-ok_or
+returns-in_err-ok_or g c =
     let m = g.C.Condition.meaning in
     let s = state m c.args.self.now in
-    let t = c.in-None.ensures in
     let f = c.in_ok-filter.ensures in
     let h = c.in_ok-change.ensures in
-    let lines : _ ≡ lines_updated c.args.number c.args.table c.args.filter c.args.change s =
-    λ k. updated_lines (record { position = check_value _ _ c.in_ok-position.ensures k; table = c.args.table; passing = f.1 k; changing = h.1 k }) (c.len-used.ensures.first k) in
-    rw t.1
+    let full = rw c.in_err-ok_or.ensures.ok_part at c.update.ensures in
+    let p = err_from_is_err_and c.from_residual-in_err-ok_or.result c.from_residual-in_err-ok_or.ensures.1 in
+    let lines = same_update c.args.table s.lines (check_value _ _ c.in_ok-position.ensures) f.1 h.1 in
+    rw (p.1, p.2, full.1)
     (stopped m refl
     (inr (
       check_passed _ _ c.in_ok-position.ensures,
       inr (
         check_passed _ _ c.in_ok-check_table.ensures,
-        inr (ap not f.0, inr (ap not h.0, inl (lt-ltb _ _ (omega (arith, t.0, ap length lines)), refl))),
+        inr (ap not f.0, inr (ap not h.0, inl (lt-ltb _ _ (omega (arith, full.0, ap length lines)), ok_or_told c.update.result c.in_err-ok_or.ensures.value))),
       ),
     )))
 
-pub returns-in-Some : goal.returns-in-Some
-returns-in-Some g c =
+pub returns : goal.returns
+returns g c =
     let m = g.C.Condition.meaning in
     let b = c.args.self.now in
     let s = state m b in
-    let n = c.in-Some.end in
-    let ys = c.update_lines.new.lines in
-    let t = c.in-Some.ensures in
+    let n = c.args.number in
     let f = c.in_ok-filter.ensures in
     let h = c.in_ok-change.ensures in
-    let u = rewrite_of c.args.number c.args.table c.args.filter c.args.change s in
+    let u = rewrite_of n c.args.table c.args.filter c.args.change s in
     let pending = check_passed _ _ c.in_ok-position.ensures in
-    let long : length ys ≡ length b.lines.now = omega arith in
-    let leaves : facts m n ys ≡ updated_lines u s.lines =
-    t.1 ∙ (λ k. updated_lines (record { position = check_value _ _ c.in_ok-position.ensures k; table = c.args.table; passing = f.1 k; changing = h.1 k }) (c.len-used.ensures.first k)) in
-    let count = facts_count m n ys (omega (arith, t.0)) ∙ ap length leaves in
-    performed m (max c.len-used.result n) (
-      pending,
-      (
-        check_passed _ _ c.in_ok-check_table.ensures,
-        (ap not f.0, (ap not h.0, (le-ltb _ _ (omega (arith, t.0, count)), tt))),
-      ),
-    )
-    count
-    (λ k. record { capacity = long k; first = b.first; next = b.next; pending = s.pending; lines = leaves k })
-    (omega (arith, c.len-used.ensures.count, count, ap length leaves)) t.2
+    let wrote : Became m (updated_lines u s.lines) b.lines c.update.new.self =
+    subst (λ fs. Became m fs b.lines c.update.new.self)
+    (same_update c.args.table s.lines (check_value _ _ c.in_ok-position.ensures) f.1 h.1)
+    (rw c.in_ok-ok_or.ensures.ok_part at c.update.ensures) in
+    performed m (pending, (check_passed _ _ c.in_ok-check_table.ensures, (ap not f.0, (ap not h.0, (room_found m wrote, tt)))))
+    wrote c.len.ensures.count refl refl
     (λ _. update_leaves_possible u s.lines)
-    refl
-    (record {
-      writes = update_writes c.args.number s (position_below c.args.number s pending (held_few b.pending)) u refl;
-      reordered = update_is_plain u s.lines;
-    })
+    (record { writes = update_writes n s (position_below n s pending (held_few b.pending)) u refl; reordered = update_is_plain u s.lines })

@@ -1,27 +1,20 @@
-use Rattle.std.proofs.Common.{◌≡◌, ℕ, ◌-◌, ◌^◌, ◌<◌, true, ◌&&◌, ltb, length, sym, refl, ap, ◌∙◌, subst, inl, arith}
+use Rattle.std.proofs.Common.{◌≡◌, ℕ, ◌^◌, ◌<◌, true, ◌&&◌, ltb, length, sym, ap, ◌∙◌, subst, arith}
 use lib.Bits.{bit_and}
-use Rattle.std.proofs.lemmas.Result.{err_from_is_err_and}
 use Rattle.std.proofs.lemmas.Bool.{lt-ltb}
 use Rattle.std.proofs.lemmas.Bool.Decides.{nat_tests}
 use Rattle.conditions.specs.Choices.{positions, bit}
 use Rattle.conditions.specs.Meanings.{everywhere, narrowing}
 use Rattle.conditions.proofs.Bits.{bit_of_and}
-use Rattle.book.specs.Lines.{facts}
 use Rattle.book.specs.Votes.{orphaned, lowest_below, vote_on, Says}
 use Rattle.book.specs.Calls.{position, speaks_against}
 use Rattle.book.specs.Books.{state}
-use Rattle.book.proofs.Grounds.{check_passed, check_failed, check_value}
+use Rattle.book.proofs.Grounds.{check_passed, check_value}
 use Rattle.book.proofs.Meanings.{position_below}
 use Rattle.book.proofs.Showing.{narrowed_at}
 use Rattle.book.proofs.Voting.{lowest_first}
 use Rattle.book.proofs.Lowest.{vote_says}
-use Rattle.book.proofs.Calling.{answered, unanswered, held_few}
+use Rattle.book.proofs.Calling.{answered, held_few}
 use Rattle.book.proofs.book.Book.vote.Goals as goal
-
-pub returns-in_err-position : goal.returns-in_err-position
-returns-in_err-position g c =
-    let p = err_from_is_err_and c.from_residual.result c.from_residual.ensures.1 in
-    rw (p.1, p.2) (record { answered = unanswered g.C.Condition.meaning refl (inl (check_failed _ _ c.in_err-position.ensures)); plainly = tt })
 
 pub returns : goal.returns
 returns g c =
@@ -31,7 +24,6 @@ returns g c =
     let n = c.args.number in
     let pending = check_passed _ _ c.in_ok-position.ensures in
     let at = position_below n s pending (held_few b.pending) in
-    let whole : c.len-used.result - 0 ≡ c.len-used.result = omega arith in
     let o = c.orphans.result in
     let k = c.verdicts-committing.result in
     let f = c.first_choices.result in
@@ -39,7 +31,7 @@ returns g c =
     let same : (d : ℕ) → d < 64 → bit d o ≡ (ltb d (2 ^ length s.pending) && speaks_against n s d) =
     λ d l.
     let x = bit_of_and d k f in
-    let z = c.orphans.ensures d l ∙ ap (λ i. bit d (bit_and k f) && orphaned d (facts m i b.lines.now)) whole ∙ ap (λ fs. bit d (bit_and k f) && orphaned d fs) c.len-used.ensures.first in
+    let z = c.orphans.ensures d l ∙ ap (λ fs. bit d (bit_and k f) && orphaned d fs) c.as_slice.ensures in
     let u : bit d k ≡ bit (position n s) d =
     c.verdicts-committing.ensures d l
     ∙ ap (λ q. q d) (c.narrowed.ensures ∙ ap (narrowing positions c.in_ok-position.position true) c.always.ensures ∙ ap (λ i. narrowing positions i true (everywhere positions)) (check_value _ _ c.in_ok-position.ensures))
