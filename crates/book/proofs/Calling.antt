@@ -5,9 +5,6 @@ use Rattle.std.proofs.lemmas.Bool.{cases_lt}
 use Rattle.book.specs.declared.line.Line.{Line}
 use Rattle.book.specs.declared.book.Book.{Book}
 use Rattle.book.specs.declared.faults.BookFault.{BookFault}
-use Rattle.book.specs.declared.pending.Pending.{Pending}
-use Rattle.conditions.specs.Choices.{positions}
-use Rattle.book.specs.Numbers.{held}
 use Rattle.book.specs.Lines.{seen, facts}
 use Rattle.book.specs.Calls.{State, Effect, accepted}
 use Rattle.book.specs.Books.{Possible, state, reach, Called, Performed, Answered}
@@ -88,7 +85,3 @@ module _ {C : Type 0} (m : C → ℕ → Bool) where
   -- the lines of a count that the memory holds
   pub facts_count : (n : ℕ) (ls : List (Line C)) → n ≤ length ls → n ≡ length (facts m n ls)
   facts_count n ls h = omega (arith, facts_long n ls)
-
--- no more are pending than there are positions
-pub held_few : (p : Pending) → length (held p) ≤ positions
-held_few p = omega (arith, length-take p.count p.numbers, p.few)

@@ -3,7 +3,6 @@ use Rattle.std.specs.Prelude.{◌≡◌, ℕ, ◌^◌, max, Bool, false, length,
 use Rattle.std.specs.List.{AllByRecursion}
 use Rattle.book.specs.declared.book.Book.{Book}
 use Rattle.book.specs.declared.faults.BookFault.{BookFault}
-use Rattle.book.specs.Numbers.{held}
 use Rattle.book.specs.Lines.{facts, impossible}
 use Rattle.book.specs.declared.vote.Vote.{Vote}
 use Rattle.book.specs.Votes.{Says}
@@ -21,7 +20,7 @@ module _ {C : Type 0} (m : C → ℕ → Bool) where
     capacity = length b.lines.now;
     first = b.first;
     next = b.next;
-    pending = held b.pending;
+    pending = b.pending.items;
     lines = facts m b.used b.lines.now;
   }
 

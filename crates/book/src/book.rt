@@ -1,22 +1,22 @@
-ghost use Rattle.std.specs.Prelude.{◌≡◌, ℕ, ◌<◌, ◌≤◌, [], ◌∷◌, length, ◌==◌, slice_set};
+ghost use Rattle.std.specs.Prelude.{◌≡◌, ℕ, ◌^◌, ◌<◌, ◌≤◌, [], ◌∷◌, length, ◌==◌, slice_set, OnOk};
+ghost use Rattle.conditions.specs.Choices.{positions};
 ghost use Rattle.book.specs.Filters.{passes};
 ghost use Rattle.book.specs.Calls.{fresh, refusing, garbled, not_pending, no_table, bad_choice, bad_making, opened, inserted, deleted, updated, decided, counted, position};
 ghost use Rattle.book.specs.Lines.{facts};
 ghost use Rattle.book.specs.Plain.{row_added, rows_removed, Writes, Updates, Decides};
 ghost use Rattle.book.specs.Books.{Called, Performed, Answered, Polled, state};
 
-use crate::change::RawChange;
+use crate::change::{Change, RawChange};
 use crate::faults::BookFault;
-use crate::filter::RawFilter;
+use crate::filter::{Filter, RawFilter};
 use crate::line::Line;
-use crate::numbers::after;
-use crate::pending::Pending;
 use crate::row::Row;
 use crate::steps::{Deciding, Deleting, compact};
 use crate::tables::count_rows;
 use crate::update::{Update, update_lines};
 use crate::vote::{Vote, first_choices, orphans, vote_against};
-use conditions::Condition;
+use arrayvec::ArrayVec;
+use conditions::{Condition, POSITIONS};
 
 // The most lines that a book can work with.
 const MOST_LINES: usize = 4096;
@@ -28,7 +28,8 @@ pub struct Book<'a, C> {
     used: usize,
     first: u32,
     next: Option<u32>,
-    pending: Pending,
+    // The numbers of the pending transactions, in order of opening.
+    pending: ArrayVec<u32, POSITIONS>,
 }
 
 // Whether a book can be made of so many lines and this first number.
@@ -44,19 +45,21 @@ pub fn check_making(capacity: usize, first: u32) -> Result<(), BookFault>
 fn check_table(table: u8) -> Result<(), BookFault>
     ensures { result ≡ refusing (no_table table ∷ []) tt }
 {
-    if table == 0 || table > 4 {
+    if !(1..=4).contains(&table) {
         return Err(BookFault::NoTable(table));
     }
     Ok(())
 }
 
-fn check_word(word: u8) -> Result<(), BookFault>
-    ensures { result ≡ refusing (garbled word ∷ []) tt }
+// Whether the word commits.
+fn check_word(word: u8) -> Result<bool, BookFault>
+    ensures { result ≡ refusing (garbled word ∷ []) (word == 1) }
 {
-    if word > 1 {
-        return Err(BookFault::GarbledWord(word));
+    match word {
+        0 => Ok(false),
+        1 => Ok(true),
+        _ => Err(BookFault::GarbledWord(word)),
     }
-    Ok(())
 }
 
 fn put<C: Condition>(lines: &mut [Line<C>], at: usize, line: Line<C>)
@@ -78,7 +81,7 @@ impl<'a, C: Condition> Book<'a, C> {
             used: 0,
             first,
             next: Some(first),
-            pending: Pending::none(),
+            pending: ArrayVec::new(),
         }
     }
 
@@ -92,18 +95,28 @@ impl<'a, C: Condition> Book<'a, C> {
     }
 
     fn position(&self, number: u32) -> Result<u8, BookFault>
-        ensures { result ≡ refusing (not_pending number (state C.Condition.meaning self.now) ∷ []) (position number (state C.Condition.meaning self.now)) }
+        ensures found { result ≡ refusing (not_pending number (state C.Condition.meaning self.now) ∷ []) (position number (state C.Condition.meaning self.now)) }
+        ensures within { OnOk result (position number (state C.Condition.meaning self.now) < positions) }
     {
-        match self.pending.position(number) {
-            None => Err(BookFault::NotPending(number)),
-            Some(at) => Ok(at),
-        }
+        self.pending
+            .iter()
+            .position(|pending| *pending == number)
+            .map(|at| at as u8)
+            .ok_or(BookFault::NotPending(number))
+    }
+
+    // How many choices of endings there are.
+    fn choices(&self) -> u8
+        ensures count { result ≡ 2 ^ length (state C.Condition.meaning self.now).pending }
+        ensures within { (1 ≤ result) × (result ≤ 2 ^ positions) }
+    {
+        1u8 << self.pending.len()
     }
 
     fn check_choice(&self, choice: u8) -> Result<(), BookFault>
         ensures { result ≡ refusing (bad_choice choice (state C.Condition.meaning self.now) ∷ []) tt }
     {
-        if choice >= self.pending.choices() {
+        if choice >= self.choices() {
             return Err(BookFault::BadChoice(choice));
         }
         Ok(())
@@ -116,15 +129,11 @@ impl<'a, C: Condition> Book<'a, C> {
         if self.pending.is_full() {
             return Err(BookFault::TooManyPending);
         }
-        match self.next {
-            None => Err(BookFault::NumbersSpent),
-            Some(number) => {
-                check_making(self.lines.len(), self.first)?;
-                self.pending.add(number);
-                self.next = after(number);
-                Ok(number)
-            }
-        }
+        let number = self.next.ok_or(BookFault::NumbersSpent)?;
+        check_making(self.lines.len(), self.first)?;
+        self.pending.push(number);
+        self.next = number.checked_add(1);
+        Ok(number)
     }
 
     // Adds a line that holds when the transaction commits, and answers the lines now in use.
@@ -154,7 +163,7 @@ impl<'a, C: Condition> Book<'a, C> {
     {
         let position = self.position(number)?;
         check_table(table)?;
-        let filter = filter.check()?;
+        let filter = Filter::try_from(filter)?;
         let used = self.len();
         let deleting = Deleting {
             position,
@@ -179,8 +188,8 @@ impl<'a, C: Condition> Book<'a, C> {
     {
         let position = self.position(number)?;
         check_table(table)?;
-        let filter = filter.check()?;
-        let change = change.check()?;
+        let filter = Filter::try_from(filter)?;
+        let change = Change::try_from(change)?;
         let used = self.len();
         let update = Update {
             position,
@@ -201,16 +210,13 @@ impl<'a, C: Condition> Book<'a, C> {
     pub fn decide(&mut self, number: u32, word: u8) -> Result<usize, BookFault>
         ensures { Performed C.Condition.meaning (decided number word) (Decides number (word == 1)) self.old self.new result }
     {
-        check_word(word)?;
+        let commits = check_word(word)?;
         let position = self.position(number)?;
         let used = self.len();
-        let deciding = Deciding {
-            position,
-            commits: word == 1,
-        };
+        let deciding = Deciding { position, commits };
         let left = compact(self.lines, used, &deciding);
         self.used = left;
-        self.pending.remove(number);
+        self.pending.retain(|pending| *pending != number);
         Ok(left)
     }
 
@@ -231,7 +237,7 @@ impl<'a, C: Condition> Book<'a, C> {
         let position = self.position(number)?;
         let used = self.len();
         let committing = C::always().narrowed(position, true).verdicts();
-        let choices = committing & first_choices(self.pending.choices());
+        let choices = committing & first_choices(self.choices());
         Ok(vote_against(orphans(&self.lines[0..used], choices)))
     }
 }

@@ -15,6 +15,10 @@ pub(crate) enum Operation {
     Earlier,
 }
 
+// A number that names no operation.
+#[derive(Clone, Copy)]
+pub(crate) struct UnknownOperation(pub(crate) u8);
+
 // A change that was checked.
 #[derive(Clone, Copy)]
 pub(crate) struct Change {

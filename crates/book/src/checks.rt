@@ -1,24 +1,28 @@
-ghost use Rattle.std.specs.Prelude.{◌≡◌, true, false, MatchResult};
-ghost use Rattle.book.specs.Filters.{which, value, with_value, passes, good_filter, filter_fault, passes_checked, moved, operation_of, changed, good_change, change_fault, changed_checked};
+ghost use Rattle.std.specs.Prelude.{◌≡◌, true, false, None, Some, MatchResult};
+ghost use Rattle.book.specs.Filters.{which, value, with_value, between, passes, good_filter, filter_fault, passes_checked, moved, operation_of, changed, good_change, change_fault, changed_checked};
 
-use crate::change::{Change, Operation, RawChange};
+use crate::change::{Change, Operation, RawChange, UnknownOperation};
 use crate::faults::{ChangeFault, FilterFault};
 use crate::filter::{Filter, Range, RawFilter};
-use crate::row::{Field, Row};
+use crate::row::{Field, Row, UnknownField};
 
-impl Field {
-    pub(crate) fn of(number: u8) -> Option<Field>
-        ensures { result ≡ which number }
-    {
+impl TryFrom<u8> for Field {
+    type Error = UnknownField;
+
+    ghost try_from_gives = { λ n r. MatchResult r (λ f. which n ≡ Some f) (λ e. (which n ≡ None) × (e.0 ≡ n)) };
+
+    fn try_from(number: u8) -> Result<Field, UnknownField> {
         match number {
-            1 => Some(Field::First),
-            2 => Some(Field::Second),
-            3 => Some(Field::Third),
-            4 => Some(Field::Fourth),
-            _ => None,
+            1 => Ok(Field::First),
+            2 => Ok(Field::Second),
+            3 => Ok(Field::Third),
+            4 => Ok(Field::Fourth),
+            _ => Err(UnknownField(number)),
         }
     }
+}
 
+impl Field {
     pub(crate) fn get(self, row: Row) -> u32
         ensures { result ≡ value self row }
     {
@@ -44,29 +48,29 @@ impl Field {
     }
 }
 
-impl RawFilter {
-    pub(crate) fn check(self) -> Result<Filter, FilterFault>
-        ensures { MatchResult result (λ f. (good_filter self ≡ true) × (passes_checked f ≡ passes self)) (λ e. (good_filter self ≡ false) × (e ≡ filter_fault self)) }
+impl TryFrom<RawFilter> for Filter {
+    type Error = FilterFault;
+
+    ghost try_from_gives = { λ raw r. MatchResult r (λ f. (good_filter raw ≡ true) × (passes_checked f ≡ passes raw)) (λ e. (good_filter raw ≡ false) × (e ≡ filter_fault raw)) };
+
+    fn try_from(raw: RawFilter) -> Result<Filter, FilterFault> {
+        let RawFilter { field, low, high } = raw;
+        if field == 0 {
+            return Ok(Filter(None));
+        }
+        let field = Field::try_from(field)?;
+        if low > high {
+            return Err(FilterFault::Backward { low, high });
+        }
+        Ok(Filter(Some(Range { field, low, high })))
+    }
+}
+
+impl Range {
+    fn contains(self, row: Row) -> bool
+        ensures { result ≡ between self.low self.high self.field row }
     {
-        if self.field == 0 {
-            return Ok(Filter::Every);
-        }
-        match Field::of(self.field) {
-            None => Err(FilterFault::NoFilterField(self.field)),
-            Some(field) => {
-                if self.low > self.high {
-                    return Err(FilterFault::Backward {
-                        low: self.low,
-                        high: self.high,
-                    });
-                }
-                Ok(Filter::Within(Range {
-                    field,
-                    low: self.low,
-                    high: self.high,
-                }))
-            }
-        }
+        (self.low..=self.high).contains(&self.field.get(row))
     }
 }
 
@@ -74,28 +78,26 @@ impl Filter {
     pub(crate) fn passes(self, row: Row) -> bool
         ensures { result ≡ passes_checked self row }
     {
-        match self {
-            Filter::Every => true,
-            Filter::Within(range) => {
-                let number = range.field.get(row);
-                range.low <= number && number <= range.high
-            }
+        self.0.is_none_or(|range| range.contains(row))
+    }
+}
+
+impl TryFrom<u8> for Operation {
+    type Error = UnknownOperation;
+
+    ghost try_from_gives = { λ n r. MatchResult r (λ o. operation_of n ≡ Some o) (λ e. (operation_of n ≡ None) × (e.0 ≡ n)) };
+
+    fn try_from(number: u8) -> Result<Operation, UnknownOperation> {
+        match number {
+            0 => Ok(Operation::Set),
+            1 => Ok(Operation::Later),
+            2 => Ok(Operation::Earlier),
+            _ => Err(UnknownOperation(number)),
         }
     }
 }
 
 impl Operation {
-    pub(crate) fn of(number: u8) -> Option<Operation>
-        ensures { result ≡ operation_of number }
-    {
-        match number {
-            0 => Some(Operation::Set),
-            1 => Some(Operation::Later),
-            2 => Some(Operation::Earlier),
-            _ => None,
-        }
-    }
-
     // A result past either end of the range stops there.
     pub(crate) fn apply(self, amount: u32, number: u32) -> u32
         ensures { result ≡ moved self amount number }
@@ -108,21 +110,19 @@ impl Operation {
     }
 }
 
-impl RawChange {
-    pub(crate) fn check(self) -> Result<Change, ChangeFault>
-        ensures { MatchResult result (λ c. (good_change self ≡ true) × (changed_checked c ≡ changed self)) (λ e. (good_change self ≡ false) × (e ≡ change_fault self)) }
-    {
-        match Field::of(self.field) {
-            None => Err(ChangeFault::NoChangeField(self.field)),
-            Some(field) => match Operation::of(self.operation) {
-                None => Err(ChangeFault::NoOperation(self.operation)),
-                Some(operation) => Ok(Change {
-                    field,
-                    operation,
-                    amount: self.amount,
-                }),
-            },
-        }
+impl TryFrom<RawChange> for Change {
+    type Error = ChangeFault;
+
+    ghost try_from_gives = { λ raw r. MatchResult r (λ c. (good_change raw ≡ true) × (changed_checked c ≡ changed raw)) (λ e. (good_change raw ≡ false) × (e ≡ change_fault raw)) };
+
+    fn try_from(raw: RawChange) -> Result<Change, ChangeFault> {
+        let field = Field::try_from(raw.field)?;
+        let operation = Operation::try_from(raw.operation)?;
+        Ok(Change {
+            field,
+            operation,
+            amount: raw.amount,
+        })
     }
 }
 

@@ -19,9 +19,6 @@ pub(crate) struct Range {
     ghost ordered: { low ≤ high },
 }
 
-// A filter that was checked.
+// A filter that was checked; without a range it passes every row.
 #[derive(Clone, Copy)]
-pub(crate) enum Filter {
-    Every,
-    Within(Range),
-}
+pub(crate) struct Filter(pub(crate) Option<Range>);

@@ -1,5 +1,5 @@
 // A row of a table: four numbers.
-#[derive(Clone, Copy, PartialEq, Eq)]
+#[derive(Clone, Copy, Default, PartialEq, Eq)]
 pub struct Row {
     pub first: u32,
     pub second: u32,
@@ -9,9 +9,13 @@ pub struct Row {
 
 // A field of a row.
 #[derive(Clone, Copy)]
-pub enum Field {
+pub(crate) enum Field {
     First,
     Second,
     Third,
     Fourth,
 }
+
+// A number that names no field.
+#[derive(Clone, Copy)]
+pub(crate) struct UnknownField(pub(crate) u8);

@@ -1,27 +1,28 @@
-use Rattle.std.proofs.Common.{◌≡◌, eqb, length, refl, ap, ◌∙◌, inl, inr, arith}
+use Rattle.std.proofs.Common.{◌≡◌, eqb, length, refl, ap, ◌∙◌, inl, inr, arith, rules}
 use Rattle.std.specs.List.{flat_map}
 use Rattle.std.proofs.lemmas.Result.{err_from_is_err_and}
+use Rattle.arrayvec.proofs.ArrayVecLemmas.{filter-from_retain}
 use Rattle.book.specs.Numbers.{others}
 use Rattle.book.specs.Lines.{facts, decided_line}
 use Rattle.book.specs.Calls.{position, lines_decided}
 use Rattle.book.specs.Books.{state}
 use Rattle.book.proofs.Grounds.{check_passed, check_failed, check_value}
-use Rattle.book.proofs.Meanings.{position_below, decide_decides}
-use Rattle.book.proofs.Calling.{stopped, performed, held_few, facts_count}
+use Rattle.book.proofs.Meanings.{decide_decides}
+use Rattle.book.proofs.Calling.{stopped, performed, facts_count}
 use Rattle.book.proofs.Possibly.{decided_possible}
 use Rattle.book.proofs.book.Book.decide.Goals as goal
 
-pub returns-in_err-check_word : goal.returns-in_err-check_word
-returns-in_err-check_word g c =
+pub returns-in_err-commits : goal.returns-in_err-commits
+returns-in_err-commits g c =
     let p = err_from_is_err_and c.from_residual.result c.from_residual.ensures.1 in
-    rw (p.1, p.2) (stopped g.C.Condition.meaning refl (inl (check_failed _ _ c.in_err-check_word.ensures)))
+    rw (p.1, p.2) (stopped g.C.Condition.meaning refl (inl (check_failed _ _ c.in_err-commits.ensures)))
 
 pub returns-in_err-position : goal.returns-in_err-position
 returns-in_err-position g c =
     let p = err_from_is_err_and c.from_residual-in_err-position.result c.from_residual-in_err-position.ensures.1 in
     rw (p.1, p.2)
     (stopped g.C.Condition.meaning refl
-    (inr (check_passed _ _ c.in_ok-check_word.ensures, inl (check_failed _ _ c.in_err-position.ensures))))
+    (inr (check_passed _ _ c.in_ok-commits.ensures, inl (check_failed _ _ c.in_err-position.ensures.found))))
 
 pub returns : goal.returns
 returns g c =
@@ -32,16 +33,17 @@ returns g c =
     let n = c.compact-left.result in
     let ys = c.compact-left.new.lines in
     let d = c.compact-left.ensures in
+    let left : c.retain.new.self.items ≡ others c.args.number s.pending =
+    filter-from_retain _ _ _ (λ x b f y called. search rules) _ _ c.retain.ensures.filtered in
     let long : length ys ≡ length b.lines.now = omega arith in
     let leaves : facts m n ys ≡ lines_decided c.args.number c.args.word s =
     d.lines
-    ∙ ap (flat_map (decided_line c.in_ok-position.position (eqb c.args.word 1))) c.len-used.ensures.first
-    ∙ ap (λ i. flat_map (decided_line i (eqb c.args.word 1)) s.lines) (check_value _ _ c.in_ok-position.ensures) in
+    ∙ (λ k. flat_map (decided_line (check_value _ _ c.in_ok-position.ensures.found k) (check_value _ _ c.in_ok-commits.ensures k)) (c.len-used.ensures.first k)) in
     performed m at
-    (check_passed _ _ c.in_ok-check_word.ensures, (check_passed _ _ c.in_ok-position.ensures, tt))
+    (check_passed _ _ c.in_ok-commits.ensures, (check_passed _ _ c.in_ok-position.ensures.found, tt))
     (facts_count m n ys (omega arith) ∙ ap length leaves)
-    (λ t. record { capacity = long t; first = b.first; next = b.next; pending = c.remove.ensures t; lines = leaves t })
+    (λ t. record { capacity = long t; first = b.first; next = b.next; pending = left t; lines = leaves t })
     (omega (arith, c.len-used.ensures.count)) d.beyond
     (λ _. decided_possible (position c.args.number s) (eqb c.args.word 1) s.lines)
     refl
-    (decide_decides c.args.number s (position_below c.args.number s (check_passed _ _ c.in_ok-position.ensures) (held_few b.pending)) (eqb c.args.word 1) (others c.args.number s.pending))
+    (decide_decides c.args.number s c.in_ok-position.ensures.within (eqb c.args.word 1) (others c.args.number s.pending))

@@ -8,22 +8,22 @@ use Rattle.book.specs.Writes.{deleted_line}
 use Rattle.book.specs.Calls.{position, lines_deleted}
 use Rattle.book.specs.Books.{state}
 use Rattle.book.proofs.Grounds.{check_passed, check_failed, check_value}
-use Rattle.book.proofs.Meanings.{position_below, delete_writes}
-use Rattle.book.proofs.Calling.{stopped, performed, facts_count, held_few}
+use Rattle.book.proofs.Meanings.{delete_writes}
+use Rattle.book.proofs.Calling.{stopped, performed, facts_count}
 use Rattle.book.proofs.Possibly.{deleted_possible}
 use Rattle.book.proofs.book.Book.delete.Goals as goal
 
 pub returns-in_err-position : goal.returns-in_err-position
 returns-in_err-position g c =
     let p = err_from_is_err_and c.from_residual.result c.from_residual.ensures.1 in
-    rw (p.1, p.2) (stopped g.C.Condition.meaning refl (inl (check_failed _ _ c.in_err-position.ensures)))
+    rw (p.1, p.2) (stopped g.C.Condition.meaning refl (inl (check_failed _ _ c.in_err-position.ensures.found)))
 
 pub returns-in_err-check_table : goal.returns-in_err-check_table
 returns-in_err-check_table g c =
     let p = err_from_is_err_and c.from_residual-in_err-check_table.result c.from_residual-in_err-check_table.ensures.1 in
     rw (p.1, p.2)
     (stopped g.C.Condition.meaning refl
-    (inr (check_passed _ _ c.in_ok-position.ensures, inl (check_failed _ _ c.in_err-check_table.ensures))))
+    (inr (check_passed _ _ c.in_ok-position.ensures.found, inl (check_failed _ _ c.in_err-check_table.ensures))))
 
 pub returns-in_err-filter : goal.returns-in_err-filter
 returns-in_err-filter g c =
@@ -32,7 +32,7 @@ returns-in_err-filter g c =
     rw (p.1, p.2)
     (stopped g.C.Condition.meaning refl
     (inr (
-      check_passed _ _ c.in_ok-position.ensures,
+      check_passed _ _ c.in_ok-position.ensures.found,
       inr (check_passed _ _ c.in_ok-check_table.ensures, inl (ap not t.0, sym (ap BadFilter t.1))),
     )))
 
@@ -45,10 +45,10 @@ returns g c =
     let ys = c.compact-left.new.lines in
     let d = c.compact-left.ensures in
     let f = c.in_ok-filter.ensures in
-    let pending = check_passed _ _ c.in_ok-position.ensures in
+    let pending = check_passed _ _ c.in_ok-position.ensures.found in
     let long : length ys ≡ length b.lines.now = omega arith in
     let leaves : facts m n ys ≡ lines_deleted c.args.number c.args.table c.args.filter s =
-    d.lines ∙ (λ t. flat_map (deleted_line (check_value _ _ c.in_ok-position.ensures t) c.args.table (f.1 t)) (c.len-used.ensures.first t)) in
+    d.lines ∙ (λ t. flat_map (deleted_line (check_value _ _ c.in_ok-position.ensures.found t) c.args.table (f.1 t)) (c.len-used.ensures.first t)) in
     performed m c.len-used.result
     (pending, (check_passed _ _ c.in_ok-check_table.ensures, (ap not f.0, tt)))
     (facts_count m n ys (omega arith) ∙ ap length leaves)
@@ -56,4 +56,4 @@ returns g c =
     (omega (arith, c.len-used.ensures.count)) d.beyond
     (λ _. deleted_possible (position c.args.number s) c.args.table (passes c.args.filter) s.lines)
     refl
-    (delete_writes c.args.number s (position_below c.args.number s pending (held_few b.pending)) c.args.table (passes c.args.filter))
+    (delete_writes c.args.number s c.in_ok-position.ensures.within c.args.table (passes c.args.filter))

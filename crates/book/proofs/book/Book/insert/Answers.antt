@@ -9,22 +9,22 @@ use Rattle.book.specs.Lines.{facts, inserted_line}
 use Rattle.book.specs.Calls.{position}
 use Rattle.book.specs.Books.{state}
 use Rattle.book.proofs.Grounds.{check_passed, check_failed, check_value}
-use Rattle.book.proofs.Meanings.{position_below, insert_writes}
-use Rattle.book.proofs.Calling.{stopped, performed, held_few, facts_put}
+use Rattle.book.proofs.Meanings.{insert_writes}
+use Rattle.book.proofs.Calling.{stopped, performed, facts_put}
 use Rattle.conditions.proofs.Meaning.{half_somewhere}
 use Rattle.book.proofs.book.Book.insert.Goals as goal
 
 pub returns-in_err-position : goal.returns-in_err-position
 returns-in_err-position g c =
     let p = err_from_is_err_and c.from_residual.result c.from_residual.ensures.1 in
-    rw (p.1, p.2) (stopped g.C.Condition.meaning refl (inl (check_failed _ _ c.in_err-position.ensures)))
+    rw (p.1, p.2) (stopped g.C.Condition.meaning refl (inl (check_failed _ _ c.in_err-position.ensures.found)))
 
 pub returns-in_err-check_table : goal.returns-in_err-check_table
 returns-in_err-check_table g c =
     let p = err_from_is_err_and c.from_residual-in_err-check_table.result c.from_residual-in_err-check_table.ensures.1 in
     rw (p.1, p.2)
     (stopped g.C.Condition.meaning refl
-    (inr (check_passed _ _ c.in_ok-position.ensures, inl (check_failed _ _ c.in_err-check_table.ensures))))
+    (inr (check_passed _ _ c.in_ok-position.ensures.found, inl (check_failed _ _ c.in_err-check_table.ensures))))
 
 pub returns-then-used-self : goal.returns-then-used-self
 returns-then-used-self g c =
@@ -32,7 +32,7 @@ returns-then-used-self g c =
     let new = inserted_line (position c.args.number s) c.args.table c.args.row in
     stopped g.C.Condition.meaning refl
     (inr (
-      check_passed _ _ c.in_ok-position.ensures,
+      check_passed _ _ c.in_ok-position.ensures.found,
       inr (
         check_passed _ _ c.in_ok-check_table.ensures,
         inl (lt-ltb _ _ (omega (arith, length_push s.lines new, c.len-used.ensures.count)), refl),
@@ -51,13 +51,13 @@ returns g c =
     let lt : at < length ls = omega arith in
     let count = length_push s.lines new in
     let long = c.len-used.ensures.count in
-    let placed = check_value _ _ c.in_ok-position.ensures in
+    let placed = check_value _ _ c.in_ok-position.ensures.found in
     let means = c.narrowed-condition.ensures ∙ ap (narrowing positions i true) c.always.ensures ∙ ap (λ k. narrowing positions k true (everywhere positions)) placed in
     let lines : facts m (at + 1) c.put.new.lines ≡ s.lines ++ new ∷ [] =
     ap (facts m (at + 1)) c.put.ensures ∙ facts_put m at ls _ lt
     ∙ (λ t. c.len-used.ensures.first t ++ (record { table = c.args.table; row = c.args.row; meaning = means t }) ∷ []) in
     performed m (at + 1)
-    (check_passed _ _ c.in_ok-position.ensures, (check_passed _ _ c.in_ok-check_table.ensures, (le-ltb _ _ (omega arith), tt)))
+    (check_passed _ _ c.in_ok-position.ensures.found, (check_passed _ _ c.in_ok-check_table.ensures, (le-ltb _ _ (omega arith), tt)))
     (omega arith)
     (λ t. record {
       capacity = (ap length c.put.ensures ∙ length-set ls at _) t;
@@ -69,4 +69,4 @@ returns g c =
     (omega (arith, ap length lines)) (ap (drop (at + 1)) c.put.ensures ∙ drop-set-lt (at + 1) ls at _ (omega arith))
     (λ h. All-push _ s.lines new h (half_somewhere positions (position c.args.number s)))
     refl
-    (insert_writes c.args.number s (position_below c.args.number s (check_passed _ _ c.in_ok-position.ensures) (held_few b.pending)) c.args.table c.args.row)
+    (insert_writes c.args.number s c.in_ok-position.ensures.within c.args.table c.args.row)

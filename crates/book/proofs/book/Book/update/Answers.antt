@@ -7,22 +7,22 @@ use Rattle.book.specs.Writes.{updated_lines}
 use Rattle.book.specs.Calls.{rewrite_of, lines_updated}
 use Rattle.book.specs.Books.{state}
 use Rattle.book.proofs.Grounds.{check_passed, check_failed, check_value}
-use Rattle.book.proofs.Meanings.{position_below, update_writes}
+use Rattle.book.proofs.Meanings.{update_writes}
 use Rattle.book.proofs.Plainly.{update_is_plain, update_leaves_possible}
-use Rattle.book.proofs.Calling.{stopped, performed, facts_count, held_few}
+use Rattle.book.proofs.Calling.{stopped, performed, facts_count}
 use Rattle.book.proofs.book.Book.update.Goals as goal
 
 pub returns-in_err-position : goal.returns-in_err-position
 returns-in_err-position g c =
     let p = err_from_is_err_and c.from_residual.result c.from_residual.ensures.1 in
-    rw (p.1, p.2) (stopped g.C.Condition.meaning refl (inl (check_failed _ _ c.in_err-position.ensures)))
+    rw (p.1, p.2) (stopped g.C.Condition.meaning refl (inl (check_failed _ _ c.in_err-position.ensures.found)))
 
 pub returns-in_err-check_table : goal.returns-in_err-check_table
 returns-in_err-check_table g c =
     let p = err_from_is_err_and c.from_residual-in_err-check_table.result c.from_residual-in_err-check_table.ensures.1 in
     rw (p.1, p.2)
     (stopped g.C.Condition.meaning refl
-    (inr (check_passed _ _ c.in_ok-position.ensures, inl (check_failed _ _ c.in_err-check_table.ensures))))
+    (inr (check_passed _ _ c.in_ok-position.ensures.found, inl (check_failed _ _ c.in_err-check_table.ensures))))
 
 pub returns-in_err-filter : goal.returns-in_err-filter
 returns-in_err-filter g c =
@@ -31,7 +31,7 @@ returns-in_err-filter g c =
     rw (p.1, p.2)
     (stopped g.C.Condition.meaning refl
     (inr (
-      check_passed _ _ c.in_ok-position.ensures,
+      check_passed _ _ c.in_ok-position.ensures.found,
       inr (check_passed _ _ c.in_ok-check_table.ensures, inl (ap not t.0, sym (ap BadFilter t.1))),
     )))
 
@@ -42,7 +42,7 @@ returns-in_err-change g c =
     rw (p.1, p.2)
     (stopped g.C.Condition.meaning refl
     (inr (
-      check_passed _ _ c.in_ok-position.ensures,
+      check_passed _ _ c.in_ok-position.ensures.found,
       inr (
         check_passed _ _ c.in_ok-check_table.ensures,
         inr (ap not c.in_ok-filter.ensures.0, inl (ap not t.0, sym (ap BadChange t.1))),
@@ -57,11 +57,11 @@ returns-in-None g c =
     let f = c.in_ok-filter.ensures in
     let h = c.in_ok-change.ensures in
     let lines : _ ≡ lines_updated c.args.number c.args.table c.args.filter c.args.change s =
-    λ k. updated_lines (record { position = check_value _ _ c.in_ok-position.ensures k; table = c.args.table; passing = f.1 k; changing = h.1 k }) (c.len-used.ensures.first k) in
+    λ k. updated_lines (record { position = check_value _ _ c.in_ok-position.ensures.found k; table = c.args.table; passing = f.1 k; changing = h.1 k }) (c.len-used.ensures.first k) in
     rw t.1
     (stopped m refl
     (inr (
-      check_passed _ _ c.in_ok-position.ensures,
+      check_passed _ _ c.in_ok-position.ensures.found,
       inr (
         check_passed _ _ c.in_ok-check_table.ensures,
         inr (ap not f.0, inr (ap not h.0, inl (lt-ltb _ _ (omega (arith, t.0, ap length lines)), refl))),
@@ -79,10 +79,10 @@ returns-in-Some g c =
     let f = c.in_ok-filter.ensures in
     let h = c.in_ok-change.ensures in
     let u = rewrite_of c.args.number c.args.table c.args.filter c.args.change s in
-    let pending = check_passed _ _ c.in_ok-position.ensures in
+    let pending = check_passed _ _ c.in_ok-position.ensures.found in
     let long : length ys ≡ length b.lines.now = omega arith in
     let leaves : facts m n ys ≡ updated_lines u s.lines =
-    t.1 ∙ (λ k. updated_lines (record { position = check_value _ _ c.in_ok-position.ensures k; table = c.args.table; passing = f.1 k; changing = h.1 k }) (c.len-used.ensures.first k)) in
+    t.1 ∙ (λ k. updated_lines (record { position = check_value _ _ c.in_ok-position.ensures.found k; table = c.args.table; passing = f.1 k; changing = h.1 k }) (c.len-used.ensures.first k)) in
     let count = facts_count m n ys (omega (arith, t.0)) ∙ ap length leaves in
     performed m (max c.len-used.result n) (
       pending,
@@ -97,6 +97,6 @@ returns-in-Some g c =
     (λ _. update_leaves_possible u s.lines)
     refl
     (record {
-      writes = update_writes c.args.number s (position_below c.args.number s pending (held_few b.pending)) u refl;
+      writes = update_writes c.args.number s c.in_ok-position.ensures.within u refl;
       reordered = update_is_plain u s.lines;
     })

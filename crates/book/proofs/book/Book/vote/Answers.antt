@@ -11,17 +11,16 @@ use Rattle.book.specs.Votes.{orphaned, lowest_below, vote_on, Says}
 use Rattle.book.specs.Calls.{position, speaks_against}
 use Rattle.book.specs.Books.{state}
 use Rattle.book.proofs.Grounds.{check_passed, check_failed, check_value}
-use Rattle.book.proofs.Meanings.{position_below}
 use Rattle.book.proofs.Showing.{narrowed_at}
 use Rattle.book.proofs.Voting.{lowest_first}
 use Rattle.book.proofs.Lowest.{vote_says}
-use Rattle.book.proofs.Calling.{answered, unanswered, held_few}
+use Rattle.book.proofs.Calling.{answered, unanswered}
 use Rattle.book.proofs.book.Book.vote.Goals as goal
 
 pub returns-in_err-position : goal.returns-in_err-position
 returns-in_err-position g c =
     let p = err_from_is_err_and c.from_residual.result c.from_residual.ensures.1 in
-    rw (p.1, p.2) (record { answered = unanswered g.C.Condition.meaning refl (inl (check_failed _ _ c.in_err-position.ensures)); plainly = tt })
+    rw (p.1, p.2) (record { answered = unanswered g.C.Condition.meaning refl (inl (check_failed _ _ c.in_err-position.ensures.found)); plainly = tt })
 
 pub returns : goal.returns
 returns g c =
@@ -29,8 +28,8 @@ returns g c =
     let b = c.args.self.now in
     let s = state m b in
     let n = c.args.number in
-    let pending = check_passed _ _ c.in_ok-position.ensures in
-    let at = position_below n s pending (held_few b.pending) in
+    let pending = check_passed _ _ c.in_ok-position.ensures.found in
+    let at = c.in_ok-position.ensures.within in
     let whole : c.len-used.result - 0 ≡ c.len-used.result = omega arith in
     let o = c.orphans.result in
     let k = c.verdicts-committing.result in
@@ -42,7 +41,7 @@ returns g c =
     let z = c.orphans.ensures d l ∙ ap (λ i. bit d (bit_and k f) && orphaned d (facts m i b.lines.now)) whole ∙ ap (λ fs. bit d (bit_and k f) && orphaned d fs) c.len-used.ensures.first in
     let u : bit d k ≡ bit (position n s) d =
     c.verdicts-committing.ensures d l
-    ∙ ap (λ q. q d) (c.narrowed.ensures ∙ ap (narrowing positions c.in_ok-position.position true) c.always.ensures ∙ ap (λ i. narrowing positions i true (everywhere positions)) (check_value _ _ c.in_ok-position.ensures))
+    ∙ ap (λ q. q d) (c.narrowed.ensures ∙ ap (narrowing positions c.in_ok-position.position true) c.always.ensures ∙ ap (λ i. narrowing positions i true (everywhere positions)) (check_value _ _ c.in_ok-position.ensures.found))
     ∙ narrowed_at (position n s) at d l 0 true (everywhere positions) ∙ ap (λ b. b && bit (position n s) d) (lt-ltb d 64 l) in
     let v : bit d f ≡ ltb d (2 ^ length s.pending) = c.first_choices.ensures d ∙ ap (ltb d) all in
     grind (arith, nat_tests) in
