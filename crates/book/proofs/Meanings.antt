@@ -1,19 +1,18 @@
 -- Each write does to the tables, under every choice, what plain tables would do if its transaction commits.
-use Rattle.std.proofs.Common.{◌≡◌, ℕ, ◌+◌, ◌<◌, ◌≤◌, Bool, true, false, cond, not, ◌&&◌, eqb, List, [], ◌∷◌, ◌++◌, map, length, is_some, Some, None, Option, filter, sym, refl, ap, ◌∙◌, arith}
+use Rattle.std.proofs.Common.{◌≡◌, ℕ, ◌<◌, Bool, true, false, cond, not, ◌&&◌, eqb, List, [], ◌∷◌, ◌++◌, map, filter, sym, refl, ap, ◌∙◌}
 use Rattle.std.specs.List.{flat_map, AllByRecursion}
 use Rattle.std.specs.List.Sorted.{IsPermutation}
 use Rattle.std.proofs.lemmas.List.{map-append}
 use Rattle.std.proofs.lemmas.List.Elements.{filter-append}
 use Rattle.std.proofs.lemmas.List.Sorted.{IsPermutation-sym}
 use Rattle.std.proofs.ByRecursion.{all_shuffled}
-use Rattle.std.proofs.lemmas.Bool.{or_parts, or_from, not-false}
+use Rattle.std.proofs.lemmas.Bool.{or_parts, or_from}
 use Rattle.conditions.specs.Choices.{positions, bit}
 use Rattle.book.specs.declared.row.Row.{Row}
 use Rattle.book.specs.Lines.{Fact, decided_line}
-use Rattle.book.specs.Numbers.{place}
 use Rattle.book.specs.Tables.{stands, same_row, rows, has}
 use Rattle.book.specs.Writes.{Rewrite, deleted_line, plainly_updated, updated_lines}
-use Rattle.book.specs.Calls.{State, position, or_zero, with_lines, lines_inserted}
+use Rattle.book.specs.Calls.{State, position, with_lines, lines_inserted}
 use Rattle.book.specs.Plain.{row_added, rows_removed, rows_changed, tables, Writes, Decides}
 use Rattle.book.proofs.Counting.{has_more}
 use Rattle.book.proofs.Plainly.{update_is_plain}

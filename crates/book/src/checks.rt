@@ -37,14 +37,24 @@ impl Field {
     pub(crate) fn set(self, row: Row, number: u32) -> Row
         ensures { result ≡ with_value self number row }
     {
-        let mut row = row;
         match self {
-            Field::First => row.first = number,
-            Field::Second => row.second = number,
-            Field::Third => row.third = number,
-            Field::Fourth => row.fourth = number,
+            Field::First => Row {
+                first: number,
+                ..row
+            },
+            Field::Second => Row {
+                second: number,
+                ..row
+            },
+            Field::Third => Row {
+                third: number,
+                ..row
+            },
+            Field::Fourth => Row {
+                fourth: number,
+                ..row
+            },
         }
-        row
     }
 }
 

@@ -78,7 +78,7 @@ impl From<ChangeFault> for BookFault {
 }
 
 impl BookFault {
-    // A method: a fault is not turned into its number, it has one.
+    // A method and no `From`: a refusal has a number, and carries more.
     pub fn number(self) -> u8
         ensures { result ≡ (refusal self).number }
     {
