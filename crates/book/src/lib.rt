@@ -4,7 +4,6 @@
 
 mod book;
 mod change;
-mod checks;
 mod faults;
 mod filter;
 mod line;
