@@ -1,7 +1,9 @@
 -- From the outcome of a call to what its contract says.
-use Rattle.std.proofs.Common.{◌≡◌, ℕ, ◌+◌, ◌<◌, ◌≤◌, min, Bool, true, List, [], ◌∷◌, ◌++◌, map, length, take, drop, set, Ok, Err, sym, refl, ap, ◌∙◌, subst, ⊎_elim, arith}
+use Rattle.std.proofs.Common.{◌≡◌, ℕ, ◌+◌, ◌<◌, ◌≤◌, min, Bool, true, List, [], ◌∷◌, ◌++◌, map, length, take, drop, set, Result, Ok, Err, sym, refl, ap, ◌∙◌, subst, ⊎_elim, arith}
 use Rattle.std.proofs.lemmas.List.{length-map, length-take, take_all, take_more_set, map_push}
 use Rattle.std.proofs.lemmas.Bool.{cases_lt}
+use Rattle.std.proofs.lemmas.Result.{err_from_is_err_and}
+use Rattle.std.specs.Result.{IsErrAnd}
 use Rattle.book.specs.declared.line.Line.{Line}
 use Rattle.book.specs.declared.book.Book.{Book}
 use Rattle.book.specs.declared.faults.BookFault.{BookFault}
@@ -22,6 +24,10 @@ module _ {C : Type 0} (m : C → ℕ → Bool) {A : Type 0} {e : Effect A} {a : 
     possible = λ h. h;
     lender = refl;
   }
+
+  -- a fault that was passed up
+  pub refused_by : (f : BookFault) {r : Result A BookFault} → IsErrAnd r (λ x. x ≡ f) → rising 0 (e.grounds (state m a)) ≡ true → Stops (e.grounds (state m a)) f → Called m e a a r
+  refused_by f {r} by up is = let p = err_from_is_err_and r by in rw (p.1, p.2) (refused up is)
 
   -- from k on the memory is as it was
   pub done : {b : Book C} {n : A} (k : ℕ) → Clear (e.grounds (state m a))
@@ -44,6 +50,9 @@ module _ {C : Type 0} (m : C → ℕ → Bool) {A : Type 0} {e : Effect A} {p : 
   pub stopped : {f : BookFault} → rising 0 (e.grounds (state m a)) ≡ true → Stops (e.grounds (state m a)) f → Performed m e p a a (Err f)
   stopped up is = record { called = refused m up is; plainly = tt }
 
+  pub stopped_by : (f : BookFault) {r : Result A BookFault} → IsErrAnd r (λ x. x ≡ f) → rising 0 (e.grounds (state m a)) ≡ true → Stops (e.grounds (state m a)) f → Performed m e p a a r
+  stopped_by f {r} by up is = let q = err_from_is_err_and r by in rw (q.1, q.2) (stopped up is)
+
   pub performed : {b : Book C} {n : A} (k : ℕ) → Clear (e.grounds (state m a))
       → n ≡ e.answer (state m a) → state m b ≡ e.leaves (state m a)
       → k ≤ reach m a b → drop k b.lines.now ≡ drop k a.lines.now
@@ -57,6 +66,9 @@ module _ {C : Type 0} (m : C → ℕ → Bool) {A : Type 0} {e : Effect A} {p : 
 module _ {C : Type 0} (m : C → ℕ → Bool) {A : Type 0} {e : Effect A} {b : Book C} where
   pub unanswered : {f : BookFault} → rising 0 (e.grounds (state m b)) ≡ true → Stops (e.grounds (state m b)) f → Answered m e b (Err f)
   unanswered {f} up is = record { answers = sym (stops _ f (e.answer (state m b)) is); told = told 0 _ f up is }
+
+  pub unanswered_by : (f : BookFault) {r : Result A BookFault} → IsErrAnd r (λ x. x ≡ f) → rising 0 (e.grounds (state m b)) ≡ true → Stops (e.grounds (state m b)) f → Answered m e b r
+  unanswered_by f {r} by up is = let p = err_from_is_err_and r by in rw (p.1, p.2) (unanswered up is)
 
   pub answered : {n : A} → Clear (e.grounds (state m b)) → n ≡ e.answer (state m b) → Answered m e b (Ok n)
   answered is gives = record { answers = ap Ok gives ∙ sym (clear _ (e.answer (state m b)) is); told = is }

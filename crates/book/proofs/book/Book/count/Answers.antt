@@ -1,22 +1,18 @@
 use Rattle.std.proofs.Common.{◌≡◌, ◌-◌, refl, ap, ◌∙◌, inl, inr, arith}
-use Rattle.std.proofs.lemmas.Result.{err_from_is_err_and}
 use Rattle.book.specs.Lines.{facts}
 use Rattle.book.specs.Tables.{row_count}
 use Rattle.book.proofs.Grounds.{check_passed, check_failed}
-use Rattle.book.proofs.Calling.{answered, unanswered}
+use Rattle.book.proofs.Calling.{answered, unanswered_by}
 use Rattle.book.proofs.book.Book.count.Goals as goal
 
 pub returns-in_err-check_table : goal.returns-in_err-check_table
 returns-in_err-check_table g c =
-    let p = err_from_is_err_and c.from_residual.result c.from_residual.ensures.1 in
-    rw (p.1, p.2) (unanswered g.C.Condition.meaning refl (inl (check_failed _ _ c.in_err-check_table.ensures)))
+    unanswered_by g.C.Condition.meaning _ c.from_residual.ensures.1 refl (inl (check_failed _ _ c.in_err-check_table.ensures))
 
 pub returns-in_err-check_choice : goal.returns-in_err-check_choice
 returns-in_err-check_choice g c =
-    let p = err_from_is_err_and c.from_residual-in_err-check_choice.result c.from_residual-in_err-check_choice.ensures.1 in
-    rw (p.1, p.2)
-    (unanswered g.C.Condition.meaning refl
-    (inr (check_passed _ _ c.in_ok-check_table.ensures, inl (check_failed _ _ c.in_err-check_choice.ensures))))
+    unanswered_by g.C.Condition.meaning _ c.from_residual-in_err-check_choice.ensures.1 refl
+    (inr (check_passed _ _ c.in_ok-check_table.ensures, inl (check_failed _ _ c.in_err-check_choice.ensures)))
 
 pub returns : goal.returns
 returns g c =

@@ -1,6 +1,5 @@
 use Rattle.std.proofs.Common.{◌≡◌, eqb, length, refl, ap, ◌∙◌, inl, inr, arith, rules}
 use Rattle.std.specs.List.{flat_map}
-use Rattle.std.proofs.lemmas.Result.{err_from_is_err_and}
 use Rattle.arrayvec.proofs.ArrayVecLemmas.{filter-from_retain}
 use Rattle.book.specs.Numbers.{others}
 use Rattle.book.specs.Lines.{facts, decided_line}
@@ -8,21 +7,18 @@ use Rattle.book.specs.Calls.{position, lines_decided}
 use Rattle.book.specs.Books.{state}
 use Rattle.book.proofs.Grounds.{check_passed, check_failed, check_value}
 use Rattle.book.proofs.Meanings.{decide_decides}
-use Rattle.book.proofs.Calling.{stopped, performed, facts_count}
+use Rattle.book.proofs.Calling.{stopped_by, performed, facts_count}
 use Rattle.book.proofs.Possibly.{decided_possible}
 use Rattle.book.proofs.book.Book.decide.Goals as goal
 
 pub returns-in_err-commits : goal.returns-in_err-commits
 returns-in_err-commits g c =
-    let p = err_from_is_err_and c.from_residual.result c.from_residual.ensures.1 in
-    rw (p.1, p.2) (stopped g.C.Condition.meaning refl (inl (check_failed _ _ c.in_err-commits.ensures)))
+    stopped_by g.C.Condition.meaning _ c.from_residual.ensures.1 refl (inl (check_failed _ _ c.in_err-commits.ensures))
 
 pub returns-in_err-position : goal.returns-in_err-position
 returns-in_err-position g c =
-    let p = err_from_is_err_and c.from_residual-in_err-position.result c.from_residual-in_err-position.ensures.1 in
-    rw (p.1, p.2)
-    (stopped g.C.Condition.meaning refl
-    (inr (check_passed _ _ c.in_ok-commits.ensures, inl (check_failed _ _ c.in_err-position.ensures.found))))
+    stopped_by g.C.Condition.meaning _ c.from_residual-in_err-position.ensures.1 refl
+    (inr (check_passed _ _ c.in_ok-commits.ensures, inl (check_failed _ _ c.in_err-position.ensures.found)))
 
 pub returns : goal.returns
 returns g c =

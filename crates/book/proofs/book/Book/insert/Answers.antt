@@ -1,5 +1,4 @@
 use Rattle.std.proofs.Common.{◌≡◌, ◌+◌, ◌<◌, true, [], ◌∷◌, ◌++◌, length, drop, refl, ap, ◌∙◌, inl, inr, arith}
-use Rattle.std.proofs.lemmas.Result.{err_from_is_err_and}
 use Rattle.std.proofs.lemmas.List.{length_push, length-set, drop-set-lt}
 use Rattle.std.proofs.lemmas.Bool.{lt-ltb, le-ltb}
 use Rattle.std.proofs.ByRecursion.{All-push}
@@ -10,21 +9,18 @@ use Rattle.book.specs.Calls.{position}
 use Rattle.book.specs.Books.{state}
 use Rattle.book.proofs.Grounds.{check_passed, check_failed, check_value}
 use Rattle.book.proofs.Meanings.{insert_writes}
-use Rattle.book.proofs.Calling.{stopped, performed, facts_put}
+use Rattle.book.proofs.Calling.{stopped, stopped_by, performed, facts_put}
 use Rattle.conditions.proofs.Meaning.{half_somewhere}
 use Rattle.book.proofs.book.Book.insert.Goals as goal
 
 pub returns-in_err-position : goal.returns-in_err-position
 returns-in_err-position g c =
-    let p = err_from_is_err_and c.from_residual.result c.from_residual.ensures.1 in
-    rw (p.1, p.2) (stopped g.C.Condition.meaning refl (inl (check_failed _ _ c.in_err-position.ensures.found)))
+    stopped_by g.C.Condition.meaning _ c.from_residual.ensures.1 refl (inl (check_failed _ _ c.in_err-position.ensures.found))
 
 pub returns-in_err-check_table : goal.returns-in_err-check_table
 returns-in_err-check_table g c =
-    let p = err_from_is_err_and c.from_residual-in_err-check_table.result c.from_residual-in_err-check_table.ensures.1 in
-    rw (p.1, p.2)
-    (stopped g.C.Condition.meaning refl
-    (inr (check_passed _ _ c.in_ok-position.ensures.found, inl (check_failed _ _ c.in_err-check_table.ensures))))
+    stopped_by g.C.Condition.meaning _ c.from_residual-in_err-check_table.ensures.1 refl
+    (inr (check_passed _ _ c.in_ok-position.ensures.found, inl (check_failed _ _ c.in_err-check_table.ensures)))
 
 pub returns-then-used-self : goal.returns-then-used-self
 returns-then-used-self g c =

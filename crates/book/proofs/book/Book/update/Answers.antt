@@ -1,5 +1,4 @@
 use Rattle.std.proofs.Common.{◌≡◌, max, not, length, sym, refl, ap, ◌∙◌, inl, inr, arith}
-use Rattle.std.proofs.lemmas.Result.{err_from_is_err_and}
 use Rattle.std.proofs.lemmas.Bool.{lt-ltb, le-ltb}
 use Rattle.book.specs.declared.faults.BookFault.TheVariants.{BadFilter, BadChange}
 use Rattle.book.specs.Lines.{facts}
@@ -9,45 +8,38 @@ use Rattle.book.specs.Books.{state}
 use Rattle.book.proofs.Grounds.{check_passed, check_failed, check_value}
 use Rattle.book.proofs.Meanings.{update_writes}
 use Rattle.book.proofs.Plainly.{update_is_plain, update_leaves_possible}
-use Rattle.book.proofs.Calling.{stopped, performed, facts_count}
+use Rattle.book.proofs.Calling.{stopped, stopped_by, performed, facts_count}
 use Rattle.book.proofs.book.Book.update.Goals as goal
 
 pub returns-in_err-position : goal.returns-in_err-position
 returns-in_err-position g c =
-    let p = err_from_is_err_and c.from_residual.result c.from_residual.ensures.1 in
-    rw (p.1, p.2) (stopped g.C.Condition.meaning refl (inl (check_failed _ _ c.in_err-position.ensures.found)))
+    stopped_by g.C.Condition.meaning _ c.from_residual.ensures.1 refl (inl (check_failed _ _ c.in_err-position.ensures.found))
 
 pub returns-in_err-check_table : goal.returns-in_err-check_table
 returns-in_err-check_table g c =
-    let p = err_from_is_err_and c.from_residual-in_err-check_table.result c.from_residual-in_err-check_table.ensures.1 in
-    rw (p.1, p.2)
-    (stopped g.C.Condition.meaning refl
-    (inr (check_passed _ _ c.in_ok-position.ensures.found, inl (check_failed _ _ c.in_err-check_table.ensures))))
+    stopped_by g.C.Condition.meaning _ c.from_residual-in_err-check_table.ensures.1 refl
+    (inr (check_passed _ _ c.in_ok-position.ensures.found, inl (check_failed _ _ c.in_err-check_table.ensures)))
 
 pub returns-in_err-filter : goal.returns-in_err-filter
 returns-in_err-filter g c =
-    let p = err_from_is_err_and c.from_residual-in_err-filter.result c.from_residual-in_err-filter.ensures.1 in
     let t = c.in_err-filter.ensures in
-    rw (p.1, p.2)
-    (stopped g.C.Condition.meaning refl
+    stopped_by g.C.Condition.meaning _ c.from_residual-in_err-filter.ensures.1 refl
     (inr (
       check_passed _ _ c.in_ok-position.ensures.found,
       inr (check_passed _ _ c.in_ok-check_table.ensures, inl (ap not t.0, sym (ap BadFilter t.1))),
-    )))
+    ))
 
 pub returns-in_err-change : goal.returns-in_err-change
 returns-in_err-change g c =
-    let p = err_from_is_err_and c.from_residual-in_err-change.result c.from_residual-in_err-change.ensures.1 in
     let t = c.in_err-change.ensures in
-    rw (p.1, p.2)
-    (stopped g.C.Condition.meaning refl
+    stopped_by g.C.Condition.meaning _ c.from_residual-in_err-change.ensures.1 refl
     (inr (
       check_passed _ _ c.in_ok-position.ensures.found,
       inr (
         check_passed _ _ c.in_ok-check_table.ensures,
         inr (ap not c.in_ok-filter.ensures.0, inl (ap not t.0, sym (ap BadChange t.1))),
       ),
-    )))
+    ))
 
 pub returns-in-None : goal.returns-in-None
 returns-in-None g c =
