@@ -1,12 +1,9 @@
 -- From the outcome of a call to what its contract says.
 use Rattle.std.proofs.Common.{◌≡◌, ℕ, ◌≤◌, max, Bool, true, List, length, drop, Ok, Err, sym, refl, ap, ◌∙◌, subst, arith}
-use Rattle.std.proofs.lemmas.List.{length-take}
 use Rattle.book.specs.declared.lines.Lines.{Lines}
 use Rattle.book.specs.declared.book.Book.{Book}
 use Rattle.book.specs.declared.faults.BookFault.{BookFault}
-use Rattle.book.specs.declared.pending.Pending.{Pending}
-use Rattle.conditions.specs.Choices.{positions}
-use Rattle.book.specs.Numbers.{held}
+use Rattle.arrayvec.specs.ArrayVec.{ArrayVec}
 use Rattle.book.specs.Lines.{Fact}
 use Rattle.book.specs.Memory.{in_use, Became}
 use Rattle.book.specs.Calls.{State, Effect, accepted}
@@ -47,15 +44,15 @@ module _ {C : Type 0} (m : C → ℕ → Bool) {e : Effect ℕ} {p : State → S
   stopped up is = record { called = refused m up is; plainly = tt }
 
   -- now fs are in use, and ps pending
-  pub performed : {fs : List Fact} {ls : Lines C} {ps : Pending} {n : ℕ} → Clear (e.grounds (state m a)) → Became m fs a.lines ls
+  pub performed : {fs : List Fact} {ls : Lines C} {ps : ArrayVec ℕ} {n : ℕ} → Clear (e.grounds (state m a)) → Became m fs a.lines ls
       → n ≡ length (in_use m ls) → e.answer (state m a) ≡ length fs
-      → record { capacity = length a.lines.memory.now; first = a.first; next = a.next; pending = held ps; lines = fs } ≡ e.leaves (state m a)
+      → record { capacity = length a.lines.memory.now; first = a.first; next = a.next; pending = ps.items; lines = fs } ≡ e.leaves (state m a)
       → (Possible (state m a) → Possible (e.leaves (state m a)))
       → p (state m a) (e.leaves (state m a))
       → Performed m e p a (record { lines = ls; first = a.first; next = a.next; pending = ps }) (Ok n)
   performed {fs} {ls} {ps} is wrote counts answer leaves possible plainly =
       let left : state m (record { lines = ls; first = a.first; next = a.next; pending = ps }) ≡ e.leaves (state m a) =
-      (λ t. record { capacity = wrote.size t; first = a.first; next = a.next; pending = held ps; lines = wrote.lines t }) ∙ leaves in
+      (λ t. record { capacity = wrote.size t; first = a.first; next = a.next; pending = ps.items; lines = wrote.lines t }) ∙ leaves in
       record { called = done m is (counts ∙ ap length wrote.lines ∙ sym answer) left wrote possible; plainly = subst (p (state m a)) (sym left) plainly }
 
 -- a call that only reads
@@ -65,7 +62,3 @@ module _ {C : Type 0} (m : C → ℕ → Bool) {A : Type 0} {e : Effect A} {b : 
 
   pub answered : {n : A} → Clear (e.grounds (state m b)) → n ≡ e.answer (state m b) → Answered m e b (Ok n)
   answered is gives = record { answers = ap Ok gives ∙ sym (clear _ (e.answer (state m b)) is); told = is }
-
--- no more are pending than there are positions
-pub held_few : (p : Pending) → length (held p) ≤ positions
-held_few p = omega (arith, length-take p.count p.numbers, p.few)

@@ -1,5 +1,4 @@
 pub mod Dropping
-pub mod Placing
 pub mod Compacting
 pub mod Counting
 pub mod Grounds

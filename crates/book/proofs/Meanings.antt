@@ -1,36 +1,22 @@
 -- Each write does to the tables, under every choice, what plain tables would do if its transaction commits.
-use Rattle.std.proofs.Common.{◌≡◌, ℕ, ◌+◌, ◌<◌, ◌≤◌, Bool, true, false, cond, not, ◌&&◌, eqb, List, [], ◌∷◌, ◌++◌, map, length, is_some, Some, filter, sym, refl, ap, ◌∙◌, arith}
+use Rattle.std.proofs.Common.{◌≡◌, ℕ, ◌<◌, Bool, true, false, cond, not, ◌&&◌, eqb, List, [], ◌∷◌, ◌++◌, map, filter, sym, refl, ap, ◌∙◌}
 use Rattle.std.specs.List.{flat_map, AllByRecursion}
 use Rattle.std.specs.List.Sorted.{IsPermutation}
 use Rattle.std.proofs.lemmas.List.{map-append}
 use Rattle.std.proofs.lemmas.List.Elements.{filter-append}
 use Rattle.std.proofs.lemmas.List.Sorted.{IsPermutation-sym}
 use Rattle.std.proofs.ByRecursion.{all_shuffled}
-use Rattle.std.proofs.lemmas.Bool.{or_parts, or_from, not-false}
+use Rattle.std.proofs.lemmas.Bool.{or_parts, or_from}
 use Rattle.conditions.specs.Choices.{positions, bit}
 use Rattle.book.specs.declared.row.Row.{Row}
 use Rattle.book.specs.Lines.{Fact, decided_line}
-use Rattle.book.specs.Numbers.{place_from, place}
 use Rattle.book.specs.Tables.{stands, same_row, rows, has}
 use Rattle.book.specs.Writes.{Rewrite, deleted_line, plainly_updated, updated_lines}
-use Rattle.book.specs.Calls.{State, position, or_zero, with_lines, lines_inserted}
+use Rattle.book.specs.Calls.{State, position, with_lines, lines_inserted}
 use Rattle.book.specs.Plain.{row_added, rows_removed, rows_changed, tables, Writes, Decides}
 use Rattle.book.proofs.Counting.{has_more}
 use Rattle.book.proofs.Plainly.{update_is_plain}
 use Rattle.book.proofs.Showing.{each_shows, insert_shows, delete_one, decide_one, update_one}
-
--- a number that is pending stands at a position of the list
-place_below : (k n : ℕ) (xs : List ℕ) → is_some (place_from k n xs) ≡ true → or_zero (place_from k n xs) < k + length xs
-place_below k n [] e = let z : ◌≡◌ {A = ℕ} 0 1 = cc in absurd (omega arith)
-place_below k n (x ∷ xs) e = go (eqb x n) e (place_below (k + 1) n xs)
-  where
-    go : (b : Bool) → is_some (cond b (Some k) (place_from (k + 1) n xs)) ≡ true → (is_some (place_from (k + 1) n xs) ≡ true → or_zero (place_from (k + 1) n xs) < k + 1 + length xs)
-        → or_zero (cond b (Some k) (place_from (k + 1) n xs)) < k + length (x ∷ xs)
-    go true e rest = omega arith
-    go false e rest = omega (arith, rest e)
-
-pub position_below : (n : ℕ) (s : State) → not (is_some (place n s.pending)) ≡ false → length s.pending ≤ positions → position n s < positions
-position_below n s e h = let l = place_below 0 n s.pending (not-false _ e) in omega arith
 
 -- the order of lines does not matter
 module _ (t c : ℕ) (r : Row) where

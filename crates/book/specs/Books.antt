@@ -3,7 +3,6 @@ use Rattle.std.specs.Prelude.{◌≡◌, ℕ, ◌^◌, max, Bool, false, length,
 use Rattle.std.specs.List.{AllByRecursion}
 use Rattle.book.specs.declared.book.Book.{Book}
 use Rattle.book.specs.declared.faults.BookFault.{BookFault}
-use Rattle.book.specs.Numbers.{held}
 use Rattle.book.specs.Lines.{impossible}
 use Rattle.book.specs.Memory.{in_use}
 use Rattle.book.specs.declared.vote.Vote.{Vote}
@@ -22,7 +21,7 @@ module _ {C : Type 0} (m : C → ℕ → Bool) where
     capacity = length b.lines.memory.now;
     first = b.first;
     next = b.next;
-    pending = held b.pending;
+    pending = b.pending.items;
     lines = in_use m b.lines;
   }
 

@@ -4,8 +4,8 @@ use Rattle.book.specs.declared.row.Row.{Row}
 use Rattle.book.specs.declared.row.Field.{Field}
 use Rattle.book.specs.declared.row.Field.TheVariants.{First, Second, Third, Fourth}
 use Rattle.book.specs.declared.filter.RawFilter.{RawFilter}
+use Rattle.book.specs.declared.filter.Range.{Range}
 use Rattle.book.specs.declared.filter.Filter.{Filter}
-use Rattle.book.specs.declared.filter.Filter.TheVariants.{Every, Within}
 use Rattle.book.specs.declared.change.RawChange.{RawChange}
 use Rattle.book.specs.declared.change.Operation.{Operation}
 use Rattle.book.specs.declared.change.Operation.TheVariants.{Set, Later, Earlier}
@@ -57,10 +57,13 @@ good_filter p = p.field == 0 || (nat_le p.field 4 && nat_le p.low p.high)
 abbrev pub filter_fault : RawFilter → FilterFault
 filter_fault p = cond (nat_le p.field 4) (Backward p.low p.high) (NoFilterField p.field)
 
+abbrev pub passes_range : Option Range → Row → Bool
+passes_range None r = true
+passes_range (Some w) r = between w.low w.high w.field r
+
 -- a filter that was checked
 abbrev pub passes_checked : Filter → Row → Bool
-passes_checked Every r = true
-passes_checked (Within w) r = between w.low w.high w.field r
+passes_checked f = passes_range f.0
 
 -- Changes
 

@@ -1,22 +1,22 @@
-ghost use Rattle.std.specs.Prelude.{◌≡◌, ℕ, ◌≤◌, [], ◌∷◌, length, ◌==◌};
+ghost use Rattle.std.specs.Prelude.{◌≡◌, ℕ, ◌^◌, ◌<◌, ◌≤◌, [], ◌∷◌, length, ◌==◌, OnOk};
+ghost use Rattle.conditions.specs.Choices.{positions};
 ghost use Rattle.book.specs.Filters.{passes};
 ghost use Rattle.book.specs.Calls.{fresh, refusing, garbled, not_pending, no_table, bad_choice, bad_making, opened, inserted, deleted, updated, decided, counted, position};
 ghost use Rattle.book.specs.Lines.{facts};
 ghost use Rattle.book.specs.Plain.{row_added, rows_removed, Writes, Updates, Decides};
 ghost use Rattle.book.specs.Books.{Called, Performed, Answered, Polled, state};
 
-use crate::change::RawChange;
+use crate::change::{Change, RawChange};
 use crate::faults::BookFault;
-use crate::filter::RawFilter;
+use crate::filter::{Filter, RawFilter};
 use crate::line::Line;
 use crate::lines::Lines;
-use crate::numbers::after;
-use crate::pending::Pending;
 use crate::row::Row;
 use crate::tables::count_rows;
 use crate::update::Update;
 use crate::vote::{Vote, first_choices, orphans, vote_against};
-use conditions::Condition;
+use arrayvec::ArrayVec;
+use conditions::{Condition, POSITIONS};
 
 // The most lines that a book can work with.
 const MOST_LINES: usize = 4096;
@@ -27,7 +27,8 @@ pub struct Book<'a, C> {
     lines: Lines<'a, C>,
     first: u32,
     next: Option<u32>,
-    pending: Pending,
+    // The numbers of the pending transactions, in order of opening.
+    pending: ArrayVec<u32, POSITIONS>,
 }
 
 // Whether a book can be made of so many lines and this first number.
@@ -43,19 +44,21 @@ pub fn check_making(capacity: usize, first: u32) -> Result<(), BookFault>
 fn check_table(table: u8) -> Result<(), BookFault>
     ensures { result ≡ refusing (no_table table ∷ []) tt }
 {
-    if table == 0 || table > 4 {
+    if !(1..=4).contains(&table) {
         return Err(BookFault::NoTable(table));
     }
     Ok(())
 }
 
-fn check_word(word: u8) -> Result<(), BookFault>
-    ensures { result ≡ refusing (garbled word ∷ []) tt }
+// Whether the word commits.
+fn check_word(word: u8) -> Result<bool, BookFault>
+    ensures { result ≡ refusing (garbled word ∷ []) (word == 1) }
 {
-    if word > 1 {
-        return Err(BookFault::GarbledWord(word));
+    match word {
+        0 => Ok(false),
+        1 => Ok(true),
+        _ => Err(BookFault::GarbledWord(word)),
     }
-    Ok(())
 }
 
 impl<'a, C: Condition> Book<'a, C> {
@@ -69,7 +72,7 @@ impl<'a, C: Condition> Book<'a, C> {
             lines: Lines::none(lines),
             first,
             next: Some(first),
-            pending: Pending::none(),
+            pending: ArrayVec::new(),
         }
     }
 
@@ -83,18 +86,28 @@ impl<'a, C: Condition> Book<'a, C> {
     }
 
     fn position(&self, number: u32) -> Result<u8, BookFault>
-        ensures { result ≡ refusing (not_pending number (state C.Condition.meaning self.now) ∷ []) (position number (state C.Condition.meaning self.now)) }
+        ensures found { result ≡ refusing (not_pending number (state C.Condition.meaning self.now) ∷ []) (position number (state C.Condition.meaning self.now)) }
+        ensures within { OnOk result (position number (state C.Condition.meaning self.now) < positions) }
     {
-        match self.pending.position(number) {
-            None => Err(BookFault::NotPending(number)),
-            Some(at) => Ok(at),
-        }
+        self.pending
+            .iter()
+            .position(|pending| *pending == number)
+            .map(|at| at as u8)
+            .ok_or(BookFault::NotPending(number))
+    }
+
+    // How many choices of endings there are.
+    fn choices(&self) -> u8
+        ensures count { result ≡ 2 ^ length (state C.Condition.meaning self.now).pending }
+        ensures within { (1 ≤ result) × (result ≤ 2 ^ positions) }
+    {
+        1u8 << self.pending.len()
     }
 
     fn check_choice(&self, choice: u8) -> Result<(), BookFault>
         ensures { result ≡ refusing (bad_choice choice (state C.Condition.meaning self.now) ∷ []) tt }
     {
-        if choice >= self.pending.choices() {
+        if choice >= self.choices() {
             return Err(BookFault::BadChoice(choice));
         }
         Ok(())
@@ -107,15 +120,11 @@ impl<'a, C: Condition> Book<'a, C> {
         if self.pending.is_full() {
             return Err(BookFault::TooManyPending);
         }
-        match self.next {
-            None => Err(BookFault::NumbersSpent),
-            Some(number) => {
-                check_making(self.lines.capacity(), self.first)?;
-                self.pending.add(number);
-                self.next = after(number);
-                Ok(number)
-            }
-        }
+        let number = self.next.ok_or(BookFault::NumbersSpent)?;
+        check_making(self.lines.capacity(), self.first)?;
+        self.pending.push(number);
+        self.next = number.checked_add(1);
+        Ok(number)
     }
 
     // Adds a line that holds when the transaction commits, and answers the lines now in use.
@@ -135,7 +144,7 @@ impl<'a, C: Condition> Book<'a, C> {
     {
         let position = self.position(number)?;
         check_table(table)?;
-        let filter = filter.check()?;
+        let filter = Filter::try_from(filter)?;
         self.lines.retain_map(|line| {
             if line.table == table && filter.passes(line.row) {
                 return line.ending(position, false).possible();
@@ -158,8 +167,8 @@ impl<'a, C: Condition> Book<'a, C> {
     {
         let position = self.position(number)?;
         check_table(table)?;
-        let filter = filter.check()?;
-        let change = change.check()?;
+        let filter = Filter::try_from(filter)?;
+        let change = Change::try_from(change)?;
         let update = Update {
             position,
             table,
@@ -174,14 +183,13 @@ impl<'a, C: Condition> Book<'a, C> {
     pub fn decide(&mut self, number: u32, word: u8) -> Result<usize, BookFault>
         ensures { Performed C.Condition.meaning (decided number word) (Decides number (word == 1)) self.old self.new result }
     {
-        check_word(word)?;
+        let commits = check_word(word)?;
         let position = self.position(number)?;
-        let commits = word == 1;
         self.lines.retain_map(|line| {
             let condition = line.condition.decided(position, commits);
             Line { condition, ..line }.possible()
         });
-        self.pending.remove(number);
+        self.pending.retain(|pending| *pending != number);
         Ok(self.len())
     }
 
@@ -200,7 +208,7 @@ impl<'a, C: Condition> Book<'a, C> {
     {
         let position = self.position(number)?;
         let committing = C::always().narrowed(position, true).verdicts();
-        let choices = committing & first_choices(self.pending.choices());
+        let choices = committing & first_choices(self.choices());
         Ok(vote_against(orphans(self.lines.as_slice(), choices)))
     }
 }

@@ -1,4 +1,8 @@
-use crate::row::Field;
+ghost use Rattle.std.specs.Prelude.{◌≡◌, true, false, None, Some, MatchResult};
+ghost use Rattle.book.specs.Filters.{moved, operation_of, changed, good_change, change_fault, changed_checked};
+
+use crate::faults::ChangeFault;
+use crate::row::{Field, Row};
 
 // A change as a caller gives it: any numbers.
 #[derive(Clone, Copy)]
@@ -8,17 +12,75 @@ pub struct RawChange {
     pub amount: u32,
 }
 
+// What a change makes of a field's number.
 #[derive(Clone, Copy)]
-pub(crate) enum Operation {
+enum Operation {
     Set,
     Later,
     Earlier,
 }
 
+// A number that names no operation.
+#[derive(Clone, Copy)]
+pub(crate) struct UnknownOperation(pub(crate) u8);
+
 // A change that was checked.
 #[derive(Clone, Copy)]
 pub(crate) struct Change {
-    pub(crate) field: Field,
-    pub(crate) operation: Operation,
-    pub(crate) amount: u32,
+    field: Field,
+    operation: Operation,
+    amount: u32,
+}
+
+impl TryFrom<u8> for Operation {
+    type Error = UnknownOperation;
+
+    ghost try_from_gives = { λ n r. MatchResult r (λ o. operation_of n ≡ Some o) (λ e. (operation_of n ≡ None) × (e.0 ≡ n)) };
+
+    fn try_from(number: u8) -> Result<Operation, UnknownOperation> {
+        match number {
+            0 => Ok(Operation::Set),
+            1 => Ok(Operation::Later),
+            2 => Ok(Operation::Earlier),
+            _ => Err(UnknownOperation(number)),
+        }
+    }
+}
+
+impl Operation {
+    // A result past either end of the range stops there.
+    fn apply(self, amount: u32, number: u32) -> u32
+        ensures { result ≡ moved self amount number }
+    {
+        match self {
+            Operation::Set => amount,
+            Operation::Later => number.saturating_add(amount),
+            Operation::Earlier => number.saturating_sub(amount),
+        }
+    }
+}
+
+impl TryFrom<RawChange> for Change {
+    type Error = ChangeFault;
+
+    ghost try_from_gives = { λ raw r. MatchResult r (λ c. (good_change raw ≡ true) × (changed_checked c ≡ changed raw)) (λ e. (good_change raw ≡ false) × (e ≡ change_fault raw)) };
+
+    fn try_from(raw: RawChange) -> Result<Change, ChangeFault> {
+        let field = Field::try_from(raw.field)?;
+        let operation = Operation::try_from(raw.operation)?;
+        Ok(Change {
+            field,
+            operation,
+            amount: raw.amount,
+        })
+    }
+}
+
+impl Change {
+    pub(crate) fn apply(self, row: Row) -> Row
+        ensures { result ≡ changed_checked self row }
+    {
+        let number = self.operation.apply(self.amount, self.field.get(row));
+        self.field.set(row, number)
+    }
 }

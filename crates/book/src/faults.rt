@@ -1,6 +1,11 @@
 ghost use Rattle.std.specs.Prelude.{◌≡◌};
+ghost use Rattle.book.specs.declared.faults.FilterFault.TheVariants.{NoFilterField};
+ghost use Rattle.book.specs.declared.faults.ChangeFault.TheVariants.{NoChangeField, NoOperation};
 ghost use Rattle.book.specs.declared.faults.BookFault.TheVariants.{BadFilter, BadChange};
 ghost use Rattle.book.specs.Faults.{refusal};
+
+use crate::change::UnknownOperation;
+use crate::row::UnknownField;
 
 // What is wrong with a filter.
 #[derive(Clone, Copy)]
@@ -32,6 +37,30 @@ pub enum BookFault {
     BadMaking,
 }
 
+impl From<UnknownField> for FilterFault {
+    ghost from_gives = { λ e r. r ≡ NoFilterField e.0 };
+
+    fn from(e: UnknownField) -> FilterFault {
+        FilterFault::NoFilterField(e.0)
+    }
+}
+
+impl From<UnknownField> for ChangeFault {
+    ghost from_gives = { λ e r. r ≡ NoChangeField e.0 };
+
+    fn from(e: UnknownField) -> ChangeFault {
+        ChangeFault::NoChangeField(e.0)
+    }
+}
+
+impl From<UnknownOperation> for ChangeFault {
+    ghost from_gives = { λ e r. r ≡ NoOperation e.0 };
+
+    fn from(e: UnknownOperation) -> ChangeFault {
+        ChangeFault::NoOperation(e.0)
+    }
+}
+
 impl From<FilterFault> for BookFault {
     ghost from_gives = { λ e r. r ≡ BadFilter e };
 
@@ -49,6 +78,7 @@ impl From<ChangeFault> for BookFault {
 }
 
 impl BookFault {
+    // A method and no `From`: a refusal has a number, and carries more.
     pub fn number(self) -> u8
         ensures { result ≡ (refusal self).number }
     {

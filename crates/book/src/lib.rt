@@ -4,13 +4,10 @@
 
 mod book;
 mod change;
-mod checks;
 mod faults;
 mod filter;
 mod line;
 mod lines;
-mod numbers;
-mod pending;
 mod row;
 mod steps;
 mod tables;
@@ -22,6 +19,5 @@ pub use change::RawChange;
 pub use faults::{BookFault, ChangeFault, FilterFault};
 pub use filter::RawFilter;
 pub use line::Line;
-pub use pending::Pending;
 pub use row::Row;
 pub use vote::Vote;

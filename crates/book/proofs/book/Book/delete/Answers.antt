@@ -6,8 +6,8 @@ use Rattle.book.specs.Calls.{position, lines_deleted}
 use Rattle.book.specs.Books.{state}
 use Rattle.book.specs.Memory.{Became}
 use Rattle.book.proofs.Grounds.{check_passed, check_value}
-use Rattle.book.proofs.Meanings.{position_below, delete_writes}
-use Rattle.book.proofs.Calling.{performed, held_few}
+use Rattle.book.proofs.Meanings.{delete_writes}
+use Rattle.book.proofs.Calling.{performed}
 use Rattle.book.proofs.Possibly.{deleted_possible}
 use Rattle.book.proofs.book.Book.delete.Goals as goal
 
@@ -18,11 +18,11 @@ returns g c =
     let s = state m b in
     let at = position c.args.number s in
     let f = c.in_ok-filter.ensures in
-    let pending = check_passed _ _ c.in_ok-position.ensures in
+    let pending = check_passed _ _ c.in_ok-position.ensures.found in
     let wrote : Became m (lines_deleted c.args.number c.args.table c.args.filter s) b.lines c.retain_map.new.self =
-    subst (λ fs. Became m fs b.lines c.retain_map.new.self) (λ t. flat_map (deleted_line (check_value _ _ c.in_ok-position.ensures t) c.args.table (f.1 t)) s.lines)
+    subst (λ fs. Became m fs b.lines c.retain_map.new.self) (λ t. flat_map (deleted_line (check_value _ _ c.in_ok-position.ensures.found t) c.args.table (f.1 t)) s.lines)
     (c.retain_map.ensures (deleted_line c.in_ok-position.position c.args.table (passes_checked c.in_ok-filter.filter)) (λ l r k. search rules)) in
     performed m (pending, (check_passed _ _ c.in_ok-check_table.ensures, (ap not f.0, tt)))
     wrote c.len.ensures.count refl refl
     (λ _. deleted_possible at c.args.table (passes c.args.filter) s.lines)
-    (delete_writes c.args.number s (position_below c.args.number s pending (held_few b.pending)) c.args.table (passes c.args.filter))
+    (delete_writes c.args.number s c.in_ok-position.ensures.within c.args.table (passes c.args.filter))

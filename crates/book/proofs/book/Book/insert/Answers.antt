@@ -10,21 +10,21 @@ use Rattle.book.specs.Books.{state}
 use Rattle.book.specs.Memory.{Became}
 use Rattle.book.proofs.Using.{room_found}
 use Rattle.book.proofs.Grounds.{check_passed, check_value, ok_or_told}
-use Rattle.book.proofs.Meanings.{position_below, insert_writes}
-use Rattle.book.proofs.Calling.{stopped, performed, held_few}
+use Rattle.book.proofs.Meanings.{insert_writes}
+use Rattle.book.proofs.Calling.{stopped, performed}
 use Rattle.book.proofs.book.Book.insert.Goals as goal
 
 pub returns-in_err-ok_or : goal.returns-in_err-ok_or
 returns-in_err-ok_or g c =
     let m = g.C.Condition.meaning in
     let s = state m c.args.self.now in
-    let lines = ap (λ f. s.lines ++ f ∷ []) (c.inserted-line.ensures ∙ ap (λ i. inserted_line i c.args.table c.args.row) (check_value _ _ c.in_ok-position.ensures)) in
+    let lines = ap (λ f. s.lines ++ f ∷ []) (c.inserted-line.ensures ∙ ap (λ i. inserted_line i c.args.table c.args.row) (check_value _ _ c.in_ok-position.ensures.found)) in
     let full = rw c.in_err-ok_or.ensures.ok_part at c.push.ensures in
     let p = err_from_is_err_and c.from_residual-in_err-ok_or.result c.from_residual-in_err-ok_or.ensures.1 in
     rw (p.1, p.2, full.1)
     (stopped m refl
     (inr (
-      check_passed _ _ c.in_ok-position.ensures,
+      check_passed _ _ c.in_ok-position.ensures.found,
       inr (
         check_passed _ _ c.in_ok-check_table.ensures,
         inl (lt-ltb _ _ (omega (arith, full.0, ap length lines)), ok_or_told c.push.result c.in_err-ok_or.ensures.value),
@@ -37,12 +37,12 @@ returns g c =
     let b = c.args.self.now in
     let s = state m b in
     let n = c.args.number in
-    let pending = check_passed _ _ c.in_ok-position.ensures in
+    let pending = check_passed _ _ c.in_ok-position.ensures.found in
     let wrote : Became m (lines_inserted n c.args.table c.args.row s) b.lines c.push.new.self =
     subst (λ fs. Became m fs b.lines c.push.new.self)
-    (ap (λ f. s.lines ++ f ∷ []) (c.inserted-line.ensures ∙ ap (λ i. inserted_line i c.args.table c.args.row) (check_value _ _ c.in_ok-position.ensures)))
+    (ap (λ f. s.lines ++ f ∷ []) (c.inserted-line.ensures ∙ ap (λ i. inserted_line i c.args.table c.args.row) (check_value _ _ c.in_ok-position.ensures.found)))
     (rw c.in_ok-ok_or.ensures.ok_part at c.push.ensures) in
     performed m (pending, (check_passed _ _ c.in_ok-check_table.ensures, (room_found m wrote, tt)))
     wrote c.len.ensures.count refl refl
     (λ h. All-push _ s.lines _ h (half_somewhere positions (position n s)))
-    (insert_writes n s (position_below n s pending (held_few b.pending)) c.args.table c.args.row)
+    (insert_writes n s c.in_ok-position.ensures.within c.args.table c.args.row)

@@ -10,9 +10,9 @@ use Rattle.book.specs.Books.{state}
 use Rattle.book.specs.Memory.{Became}
 use Rattle.book.proofs.Using.{room_found}
 use Rattle.book.proofs.Grounds.{check_passed, check_value, ok_or_told}
-use Rattle.book.proofs.Meanings.{position_below, update_writes}
+use Rattle.book.proofs.Meanings.{update_writes}
 use Rattle.book.proofs.Plainly.{update_is_plain, update_leaves_possible}
-use Rattle.book.proofs.Calling.{stopped, performed, held_few}
+use Rattle.book.proofs.Calling.{stopped, performed}
 use Rattle.book.proofs.book.Book.update.Goals as goal
 
 -- updates that say the same leave the same lines
@@ -27,7 +27,7 @@ returns-in_err-change g c =
     rw (p.1, p.2)
     (stopped g.C.Condition.meaning refl
     (inr (
-      check_passed _ _ c.in_ok-position.ensures,
+      check_passed _ _ c.in_ok-position.ensures.found,
       inr (
         check_passed _ _ c.in_ok-check_table.ensures,
         inr (ap not c.in_ok-filter.ensures.0, inl (ap not t.0, sym (ap BadChange t.1))),
@@ -42,11 +42,11 @@ returns-in_err-ok_or g c =
     let h = c.in_ok-change.ensures in
     let full = rw c.in_err-ok_or.ensures.ok_part at c.update.ensures in
     let p = err_from_is_err_and c.from_residual-in_err-ok_or.result c.from_residual-in_err-ok_or.ensures.1 in
-    let lines = same_update c.args.table s.lines (check_value _ _ c.in_ok-position.ensures) f.1 h.1 in
+    let lines = same_update c.args.table s.lines (check_value _ _ c.in_ok-position.ensures.found) f.1 h.1 in
     rw (p.1, p.2, full.1)
     (stopped m refl
     (inr (
-      check_passed _ _ c.in_ok-position.ensures,
+      check_passed _ _ c.in_ok-position.ensures.found,
       inr (
         check_passed _ _ c.in_ok-check_table.ensures,
         inr (ap not f.0, inr (ap not h.0, inl (lt-ltb _ _ (omega (arith, full.0, ap length lines)), ok_or_told c.update.result c.in_err-ok_or.ensures.value))),
@@ -62,12 +62,12 @@ returns g c =
     let f = c.in_ok-filter.ensures in
     let h = c.in_ok-change.ensures in
     let u = rewrite_of n c.args.table c.args.filter c.args.change s in
-    let pending = check_passed _ _ c.in_ok-position.ensures in
+    let pending = check_passed _ _ c.in_ok-position.ensures.found in
     let wrote : Became m (updated_lines u s.lines) b.lines c.update.new.self =
     subst (λ fs. Became m fs b.lines c.update.new.self)
-    (same_update c.args.table s.lines (check_value _ _ c.in_ok-position.ensures) f.1 h.1)
+    (same_update c.args.table s.lines (check_value _ _ c.in_ok-position.ensures.found) f.1 h.1)
     (rw c.in_ok-ok_or.ensures.ok_part at c.update.ensures) in
     performed m (pending, (check_passed _ _ c.in_ok-check_table.ensures, (ap not f.0, (ap not h.0, (room_found m wrote, tt)))))
     wrote c.len.ensures.count refl refl
     (λ _. update_leaves_possible u s.lines)
-    (record { writes = update_writes n s (position_below n s pending (held_few b.pending)) u refl; reordered = update_is_plain u s.lines })
+    (record { writes = update_writes n s c.in_ok-position.ensures.within u refl; reordered = update_is_plain u s.lines })

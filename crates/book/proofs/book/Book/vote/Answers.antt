@@ -9,11 +9,10 @@ use Rattle.book.specs.Votes.{orphaned, lowest_below, vote_on, Says}
 use Rattle.book.specs.Calls.{position, speaks_against}
 use Rattle.book.specs.Books.{state}
 use Rattle.book.proofs.Grounds.{check_passed, check_value}
-use Rattle.book.proofs.Meanings.{position_below}
 use Rattle.book.proofs.Showing.{narrowed_at}
 use Rattle.book.proofs.Voting.{lowest_first}
 use Rattle.book.proofs.Lowest.{vote_says}
-use Rattle.book.proofs.Calling.{answered, held_few}
+use Rattle.book.proofs.Calling.{answered}
 use Rattle.book.proofs.book.Book.vote.Goals as goal
 
 pub returns : goal.returns
@@ -22,8 +21,8 @@ returns g c =
     let b = c.args.self.now in
     let s = state m b in
     let n = c.args.number in
-    let pending = check_passed _ _ c.in_ok-position.ensures in
-    let at = position_below n s pending (held_few b.pending) in
+    let pending = check_passed _ _ c.in_ok-position.ensures.found in
+    let at = c.in_ok-position.ensures.within in
     let o = c.orphans.result in
     let k = c.verdicts-committing.result in
     let f = c.first_choices.result in
@@ -34,7 +33,7 @@ returns g c =
     let z = c.orphans.ensures d l ∙ ap (λ fs. bit d (bit_and k f) && orphaned d fs) c.as_slice.ensures in
     let u : bit d k ≡ bit (position n s) d =
     c.verdicts-committing.ensures d l
-    ∙ ap (λ q. q d) (c.narrowed.ensures ∙ ap (narrowing positions c.in_ok-position.position true) c.always.ensures ∙ ap (λ i. narrowing positions i true (everywhere positions)) (check_value _ _ c.in_ok-position.ensures))
+    ∙ ap (λ q. q d) (c.narrowed.ensures ∙ ap (narrowing positions c.in_ok-position.position true) c.always.ensures ∙ ap (λ i. narrowing positions i true (everywhere positions)) (check_value _ _ c.in_ok-position.ensures.found))
     ∙ narrowed_at (position n s) at d l 0 true (everywhere positions) ∙ ap (λ b. b && bit (position n s) d) (lt-ltb d 64 l) in
     let v : bit d f ≡ ltb d (2 ^ length s.pending) = c.first_choices.ensures d ∙ ap (ltb d) all in
     grind (arith, nat_tests) in
