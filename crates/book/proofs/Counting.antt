@@ -1,6 +1,6 @@
 -- Looking for a row, and counting distinct rows, line by line.
-use Rattle.std.proofs.Common.{◌≡◌, ℕ, ◌+◌, ◌<◌, Bool, true, false, cond, not, ◌&&◌, ◌||◌, List, ◌∷◌, map, length, get_or, drop, sym, ap, ◌∙◌, arith}
-use Rattle.std.proofs.lemmas.List.{drop_more}
+use Rattle.std.proofs.Common.{◌≡◌, ℕ, ◌+◌, ◌<◌, Bool, true, false, cond, not, ◌&&◌, ◌||◌, List, [], ◌∷◌, map, length, sym, refl, ap, ◌∙◌, arith}
+use Rattle.std.specs.List.{list_any}
 use Rattle.book.specs.declared.row.Row.{Row}
 use Rattle.book.specs.declared.line.Line.{Line}
 use Rattle.book.specs.Lines.{Fact, seen}
@@ -27,10 +27,11 @@ module _ (table choice : ℕ) (f : Fact) (fs : List Fact) where
       go true e = found (has f.row (rows table choice fs)) e
       go false e = rw (sym e) (omega arith)
 
--- the line at a place of a slice
-pub has_step : {C : Type 0} (m : C → ℕ → Bool) (table choice : ℕ) (r : Row) (ls : List (Line C)) (i : ℕ) (l : Line C) (b : Bool) → i < length ls → l ≡ get_or ls i l
-    → b ≡ (stands table choice (seen m l) && same_row l.row r)
-    → has r (rows table choice (map (seen m) (drop i ls))) ≡ (b || has r (rows table choice (map (seen m) (drop (i + 1) ls))))
-has_step m table choice r ls i l b h is e =
-    ap (λ xs. has r (rows table choice (map (seen m) xs))) (drop_more ls i l h ∙ ap (λ x. x ∷ drop (i + 1) ls) (sym is))
-    ∙ has_more table choice (seen m l) (map (seen m) (drop (i + 1) ls)) r b (sym e)
+-- any line of them
+module _ {C : Type 0} (m : C → ℕ → Bool) (table choice : ℕ) (r : Row) where
+  abbrev pub shown_by : Line C → Bool
+  shown_by l = stands table choice (seen m l) && same_row l.row r
+
+  pub any_has : (ls : List (Line C)) → list_any shown_by ls ≡ has r (rows table choice (map (seen m) ls))
+  any_has [] = refl
+  any_has (l ∷ ls) = ap (λ b. shown_by l || b) (any_has ls) ∙ sym (has_more table choice (seen m l) (map (seen m) ls) r _ refl)

@@ -6,12 +6,6 @@ use crate::line::Line;
 use crate::row::Row;
 use conditions::Condition;
 
-fn same(a: Row, b: Row) -> bool
-    ensures { result ≡ same_row a b }
-{
-    a == b
-}
-
 // Whether the line is of the table, and holds under the choice.
 fn stands_in<C: Condition>(line: &Line<C>, table: u8, choice: u8) -> bool
     ensures { result ≡ stands table choice (seen C.Condition.meaning line.now) }
@@ -23,19 +17,14 @@ fn stands_in<C: Condition>(line: &Line<C>, table: u8, choice: u8) -> bool
 fn shows<C: Condition>(line: &Line<C>, table: u8, choice: u8, row: Row) -> bool
     ensures { result ≡ (stands table choice (seen C.Condition.meaning line.now) && same_row line.now.row row) }
 {
-    line.row.first == row.first && stands_in(line, table, choice) && same(line.row, row)
+    line.row.first == row.first && stands_in(line, table, choice) && line.row == row
 }
 
 // Whether the table has the row under the choice.
 fn has_row<C: Condition>(lines: &[Line<C>], table: u8, choice: u8, row: Row) -> bool
     ensures { result ≡ has row (rows table choice (map (seen C.Condition.meaning) lines.now)) }
 {
-    for line in lines {
-        if shows(line, table, choice, row) {
-            return true;
-        }
-    }
-    false
+    lines.iter().any(|line| shows(line, table, choice, row))
 }
 
 // Whether the line is the last that shows its row.

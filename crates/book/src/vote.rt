@@ -8,7 +8,7 @@ use crate::line::Line;
 use conditions::Condition;
 
 // A transaction's vote: yes, or no with the lowest choice in which it commits and a shot has no cue.
-#[derive(Clone, Copy)]
+#[derive(Clone, Copy, Debug, PartialEq, Eq)]
 pub enum Vote {
     Yes,
     No(u8),
