@@ -2,19 +2,25 @@
 use Rattle.std.proofs.Common.{◌≡◌, ℕ, ◌+◌, ◌<◌, Bool, true, false, cond, not, ◌&&◌, ◌||◌, List, [], ◌∷◌, map, length, sym, refl, ap, ◌∙◌, arith}
 use Rattle.std.specs.List.{list_any}
 use Rattle.book.specs.declared.row.Row.{Row}
-use Rattle.book.specs.declared.line.Line.{Line}
-use Rattle.book.specs.Lines.{Fact, seen}
-use Rattle.book.specs.Tables.{same_row, stands, rows, has, distinct, row_count}
+use Rattle.book.specs.Lines.{Fact}
+use Rattle.book.specs.Tables.{stands, rows, has, distinct, row_count}
+
+-- a row of the table passes a test where a line that stands in it has such a row
+module _ {X : Type 0} (v : X → Fact) (table choice : ℕ) (p : Row → Bool) where
+  abbrev pub stands_passing : X → Bool
+  stands_passing x = stands table choice (v x) && p (v x).row
+
+  pub any_row : (xs : List X) → list_any p (rows table choice (map v xs)) ≡ list_any stands_passing xs
+  any_row [] = refl
+  any_row (x ∷ xs) =
+      let rest = any_row xs in
+      elim (stands table choice (v x)) as (λ s. list_any p (cond s ((v x).row ∷ rows table choice (map v xs)) (rows table choice (map v xs))) ≡ ((s && p (v x).row) || list_any stands_passing xs)) [
+        | true ↦ ap (λ b. p (v x).row || b) rest
+        | false ↦ rest
+      ]
 
 -- one line more
 module _ (table choice : ℕ) (f : Fact) (fs : List Fact) where
-  pub has_more : (r : Row) (b : Bool) → (stands table choice f && same_row f.row r) ≡ b → has r (rows table choice (f ∷ fs)) ≡ (b || has r (rows table choice fs))
-  has_more r b e = go (stands table choice f) e
-    where
-      go : (s : Bool) → (s && same_row f.row r) ≡ b → has r (cond s (f.row ∷ rows table choice fs) (rows table choice fs)) ≡ (b || has r (rows table choice fs))
-      go true e = ap (λ x. x || has r (rows table choice fs)) e
-      go false e = ap (λ x. x || has r (rows table choice fs)) e
-
   pub count_more : (b : Bool) → (stands table choice f && not (has f.row (rows table choice fs))) ≡ b → row_count table choice (f ∷ fs) ≡ cond b 1 0 + row_count table choice fs
   unfolding row_count
   count_more b e = go (stands table choice f) e
@@ -26,12 +32,3 @@ module _ (table choice : ℕ) (f : Fact) (fs : List Fact) where
       go : (s : Bool) → (s && not (has f.row (rows table choice fs))) ≡ b → length (distinct (cond s (f.row ∷ rows table choice fs) (rows table choice fs))) ≡ cond b 1 0 + length (distinct (rows table choice fs))
       go true e = found (has f.row (rows table choice fs)) e
       go false e = rw (sym e) (omega arith)
-
--- any line of them
-module _ {C : Type 0} (m : C → ℕ → Bool) (table choice : ℕ) (r : Row) where
-  abbrev pub shown_by : Line C → Bool
-  shown_by l = stands table choice (seen m l) && same_row l.row r
-
-  pub any_has : (ls : List (Line C)) → list_any shown_by ls ≡ has r (rows table choice (map (seen m) ls))
-  any_has [] = refl
-  any_has (l ∷ ls) = ap (λ b. shown_by l || b) (any_has ls) ∙ sym (has_more table choice (seen m l) (map (seen m) ls) r _ refl)

@@ -1,12 +1,11 @@
 -- Each write does to the tables, under every choice, what plain tables would do if its transaction commits.
 use Rattle.std.proofs.Common.{◌≡◌, ℕ, ◌+◌, ◌<◌, ◌≤◌, Bool, true, false, cond, not, ◌&&◌, eqb, List, [], ◌∷◌, ◌++◌, map, length, is_some, Some, filter, sym, refl, ap, ◌∙◌, arith}
-use Rattle.std.specs.List.{flat_map, AllByRecursion}
+use Rattle.std.specs.List.{flat_map, list_any}
 use Rattle.std.specs.List.Sorted.{IsPermutation}
-use Rattle.std.proofs.lemmas.List.{map-append}
+use Rattle.std.proofs.lemmas.List.{map-append, map-id}
 use Rattle.std.proofs.lemmas.List.Elements.{filter-append}
-use Rattle.std.proofs.lemmas.List.Sorted.{IsPermutation-sym}
-use Rattle.std.proofs.ByRecursion.{all_shuffled}
-use Rattle.std.proofs.lemmas.Bool.{or_parts, or_from, not-false}
+use Rattle.std.proofs.lemmas.List.Sorted.{list_any-IsPermutation}
+use Rattle.std.proofs.lemmas.Bool.{not-false}
 use Rattle.conditions.specs.Choices.{positions, bit}
 use Rattle.book.specs.declared.row.Row.{Row}
 use Rattle.book.specs.Lines.{Fact, decided_line}
@@ -15,7 +14,7 @@ use Rattle.book.specs.Tables.{stands, same_row, rows, has}
 use Rattle.book.specs.Writes.{Rewrite, deleted_line, plainly_updated, updated_lines}
 use Rattle.book.specs.Calls.{State, position, or_zero, with_lines, lines_inserted}
 use Rattle.book.specs.Plain.{row_added, rows_removed, rows_changed, tables, Writes, Decides}
-use Rattle.book.proofs.Counting.{has_more}
+use Rattle.book.proofs.Counting.{stands_passing, any_row}
 use Rattle.book.proofs.Plainly.{update_is_plain}
 use Rattle.book.proofs.Showing.{each_shows, insert_shows, delete_one, decide_one, update_one}
 
@@ -34,25 +33,14 @@ position_below n s e h = let l = place_below 0 n s.pending (not-false _ e) in om
 
 -- the order of lines does not matter
 module _ (t c : ℕ) (r : Row) where
-  abbrev Apart : Fact → Type 0
-  Apart f = (stands t c f && same_row f.row r) ≡ false
+  abbrev shows_row : Fact → Bool
+  shows_row = stands_passing (λ f. f) t c (λ x. same_row x r)
 
-  apart : (fs : List Fact) → has r (rows t c fs) ≡ false → AllByRecursion Apart fs
-  apart [] e = tt
-  apart (f ∷ fs) e = let p = or_parts _ _ (sym (has_more t c f fs r _ refl) ∙ e) in (p.0, apart fs p.1)
+  by_line : (fs : List Fact) → has r (rows t c fs) ≡ list_any shows_row fs
+  by_line fs = ap (λ gs. has r (rows t c gs)) (sym (map-id fs)) ∙ any_row (λ f. f) t c (λ x. same_row x r) fs
 
-  lacks : (fs : List Fact) → AllByRecursion Apart fs → has r (rows t c fs) ≡ false
-  lacks [] h = refl
-  lacks (f ∷ fs) h = has_more t c f fs r _ refl ∙ or_from _ _ h.0 (lacks fs h.1)
-
-  both_false : (a b : Bool) → (a ≡ false → b ≡ false) → (b ≡ false → a ≡ false) → a ≡ b
-  both_false true true f g = refl
-  both_false true false f g = g refl
-  both_false false b f g = sym (f refl)
-
-  pub shuffled_has : (fs gs : List Fact) → IsPermutation fs gs → has r (rows t c fs) ≡ has r (rows t c gs)
-  shuffled_has fs gs h =
-      both_false _ _ (λ e. lacks gs (all_shuffled Apart fs gs h (apart fs e))) (λ e. lacks fs (all_shuffled Apart gs fs (IsPermutation-sym fs gs h) (apart gs e)))
+  shuffled_has : (fs gs : List Fact) → IsPermutation fs gs → has r (rows t c fs) ≡ has r (rows t c gs)
+  shuffled_has fs gs h = by_line fs ∙ list_any-IsPermutation shows_row fs gs h ∙ sym (by_line gs)
 
 at_table : {A B : Type 0} (b : Bool) (f g : A → B) (t : A) → cond b (f t) (g t) ≡ cond b f g t
 at_table true f g t = refl

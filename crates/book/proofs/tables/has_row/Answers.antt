@@ -1,12 +1,14 @@
-use Rattle.std.proofs.Common.{◌∙◌, rules, tests}
+use Rattle.std.proofs.Common.{sym, ◌∙◌, rules, tests}
 use Rattle.std.proofs.lemmas.Iterator.{YieldsList-from_slice}
 use Rattle.std.proofs.lemmas.Iterator.Search.{any_from_yields_List}
-use Rattle.book.proofs.Counting.{shown_by, any_has}
+use Rattle.book.specs.Lines.{seen}
+use Rattle.book.specs.Tables.{same_row}
+use Rattle.book.proofs.Counting.{stands_passing, any_row}
 use Rattle.book.proofs.tables.has_row.Goals as goal
 
 pub returns : goal.returns
 returns g c =
-    let m = g.C.Condition.meaning in
-    let ls = c.args.lines.now in
-    any_from_yields_List (shown_by m c.args.table c.args.choice c.args.row) _ _ _ c.any.ensures.ran (YieldsList-from_slice ls cc) (λ x b q k. search (rules, tests))
-    ∙ any_has m c.args.table c.args.choice c.args.row ls
+    let v = seen g.C.Condition.meaning in
+    let a = c.args in
+    any_from_yields_List (stands_passing v a.table a.choice (λ x. same_row x a.row)) _ _ _ c.any.ensures.ran (YieldsList-from_slice a.lines.now cc) (λ x b q k. search (rules, tests))
+    ∙ sym (any_row v a.table a.choice (λ x. same_row x a.row) a.lines.now)
