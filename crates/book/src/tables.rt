@@ -35,6 +35,7 @@ fn is_last<C: Condition>(line: &Line<C>, rest: &[Line<C>], table: u8, choice: u8
 }
 
 // How many distinct rows the table has under the choice: each counts at its last line.
+// A loop over what is left: each line is asked about with the lines behind it, which no iterator lends.
 pub(crate) fn count_rows<C: Condition>(lines: &[Line<C>], table: u8, choice: u8) -> usize
     ensures { result ≡ row_count table choice (map (seen C.Condition.meaning) lines.now) }
 {

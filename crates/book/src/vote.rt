@@ -8,15 +8,17 @@ use crate::line::Line;
 use conditions::Condition;
 
 // A transaction's vote: yes, or no with the lowest choice in which it commits and a shot has no cue.
+// Not an Option: `None` for yes, or for no, would be no plainer.
 #[derive(Clone, Copy, Debug, PartialEq, Eq)]
 pub enum Vote {
     Yes,
     No(u8),
 }
 
-// The table of the firing script, and that of the music cues.
+// The table of the firing script.
 const SCRIPT: u8 = 1;
 
+// The table of the music cues.
 const CUES: u8 = 2;
 
 // The cue is compared first: few lines have it.
