@@ -48,14 +48,12 @@ at_table false f g t = refl
 
 -- what a write does to the rows of a table, in parts
 module _ (b e : Bool) where
-  removed_more : (q : Row → Bool) (xs ys : List Row) → cond b (cond e (filter q (xs ++ ys)) (xs ++ ys)) (xs ++ ys) ≡ cond b (cond e (filter q xs) xs) xs ++ cond b (cond e (filter q ys) ys) ys
-  removed_more q xs ys = elim b as (λ b. cond b (cond e (filter q (xs ++ ys)) (xs ++ ys)) (xs ++ ys) ≡ cond b (cond e (filter q xs) xs) xs ++ cond b (cond e (filter q ys) ys) ys) [ true ↦ elim e as (λ e. cond e (filter q (xs ++ ys)) (xs ++ ys) ≡ cond e (filter q xs) xs ++ cond e (filter q ys) ys) [ true ↦ filter-append q xs ys | false ↦ refl ] | false ↦ refl ]
-
-  changed_more : (g : Row → Row) (xs ys : List Row) → cond b (cond e (map g (xs ++ ys)) (xs ++ ys)) (xs ++ ys) ≡ cond b (cond e (map g xs) xs) xs ++ cond b (cond e (map g ys) ys) ys
-  changed_more g xs ys = elim b as (λ b. cond b (cond e (map g (xs ++ ys)) (xs ++ ys)) (xs ++ ys) ≡ cond b (cond e (map g xs) xs) xs ++ cond b (cond e (map g ys) ys) ys) [ true ↦ elim e as (λ e. cond e (map g (xs ++ ys)) (xs ++ ys) ≡ cond e (map g xs) xs ++ cond e (map g ys) ys) [ true ↦ map-append g xs ys | false ↦ refl ] | false ↦ refl ]
+  in_parts : (w : List Row → List Row) → ((xs ys : List Row) → w (xs ++ ys) ≡ w xs ++ w ys) → (xs ys : List Row)
+      → cond b (cond e (w (xs ++ ys)) (xs ++ ys)) (xs ++ ys) ≡ cond b (cond e (w xs) xs) xs ++ cond b (cond e (w ys) ys) ys
+  in_parts w more xs ys = let m = more xs ys in grind arith
 
   nothing : (w : List Row → List Row) → w [] ≡ [] → cond b (cond e (w []) []) [] ≡ []
-  nothing w n = elim b as (λ b. cond b (cond e (w []) []) [] ≡ []) [ true ↦ elim e as (λ e. cond e (w []) [] ≡ []) [ true ↦ n | false ↦ refl ] | false ↦ refl ]
+  nothing w n = grind arith
 
 module _ (n : ℕ) (s : State) (at : position n s < positions) where
   pub insert_writes : (table : ℕ) (row : Row) → Writes n (row_added table row) s (with_lines s (lines_inserted n table row s))
@@ -68,7 +66,7 @@ module _ (n : ℕ) (s : State) (at : position n s < positions) where
       let e = eqb table t in
       let q : Row → Bool = λ r. not (p r) in
       ap (has r)
-      (each_shows t c c (λ rs. cond b (cond e (filter q rs) rs) rs) (nothing b e (filter q) refl) (removed_more b e q) (deleted_line (position n s) table p)
+      (each_shows t c c (λ rs. cond b (cond e (filter q rs) rs) rs) (nothing b e (filter q) refl) (in_parts b e (filter q) (filter-append q)) (deleted_line (position n s) table p)
       (delete_one (position n s) at c among t table p) s.lines
       ∙ at_table b (rows_removed table p (tables c s.lines)) (tables c s.lines) t)
 
@@ -83,6 +81,6 @@ module _ (n : ℕ) (s : State) (at : position n s < positions) where
       let g : Row → Row = λ r. cond (u.passing r) (u.changing r) r in
       sym (shuffled_has t c r (flat_map (plainly_updated u) s.lines) (updated_lines u s.lines) (update_is_plain u s.lines))
       ∙ ap (has r)
-      (each_shows t c c (λ rs. cond b (cond e (map g rs) rs) rs) (nothing b e (map g) refl) (changed_more b e g) (plainly_updated u)
+      (each_shows t c c (λ rs. cond b (cond e (map g rs) rs) rs) (nothing b e (map g) refl) (in_parts b e (map g) (map-append g)) (plainly_updated u)
       (update_one (position n s) at c among t u i) s.lines
       ∙ at_table b (rows_changed u.table u.passing u.changing (tables c s.lines)) (tables c s.lines) t)
