@@ -19,16 +19,8 @@ module _ {X : Type 0} (v : X → Fact) (table choice : ℕ) (p : Row → Bool) w
         | false ↦ rest
       ]
 
--- one line more
-module _ (table choice : ℕ) (f : Fact) (fs : List Fact) where
-  pub count_more : (b : Bool) → (stands table choice f && not (has f.row (rows table choice fs))) ≡ b → row_count table choice (f ∷ fs) ≡ cond b 1 0 + row_count table choice fs
-  unfolding row_count
-  count_more b e = go (stands table choice f) e
-    where
-      found : (h : Bool) → not h ≡ b → length (cond h (distinct (rows table choice fs)) (f.row ∷ distinct (rows table choice fs))) ≡ cond b 1 0 + length (distinct (rows table choice fs))
-      found true e = rw (sym e) (omega arith)
-      found false e = rw (sym e) (omega arith)
-
-      go : (s : Bool) → (s && not (has f.row (rows table choice fs))) ≡ b → length (distinct (cond s (f.row ∷ rows table choice fs) (rows table choice fs))) ≡ cond b 1 0 + length (distinct (rows table choice fs))
-      go true e = found (has f.row (rows table choice fs)) e
-      go false e = rw (sym e) (omega arith)
+-- one line more: it counts where no line behind it shows its row
+pub count_more : {X : Type 0} (v : X → Fact) (table choice : ℕ) (x : X) (xs ys : List X) (b : Bool) → ys ≡ x ∷ xs
+    → b ≡ (stands table choice (v x) && not (has (v x).row (rows table choice (map v xs)))) → row_count table choice (map v ys) ≡ cond b 1 0 + row_count table choice (map v xs)
+unfolding row_count
+count_more v table choice x xs ys b whole e = rw whole (grind arith)

@@ -1,9 +1,10 @@
 -- An update leaves what it leaves line by line, in another order.
-use Rattle.std.proofs.Common.{◌≡◌, Bool, true, false, cond, List, [], ◌∷◌, ◌++◌, map, sym, refl, ap, ◌∙◌, subst, ⊎_elim, arith}
+use Rattle.std.proofs.Common.{◌≡◌, Bool, true, false, cond, List, [], ◌∷◌, ◌++◌, map, sym, refl, ap, ◌∙◌, subst, inl, inr, arith}
 use Rattle.std.specs.List.{flat_map, AllByRecursion}
 use Rattle.std.specs.List.Sorted.{IsPermutation}
 use Rattle.std.proofs.lemmas.Bool.{both_ways, cases_Bool}
-use Rattle.std.proofs.lemmas.List.{append_assoc}
+use Rattle.std.proofs.lemmas.List.{append_assoc, append-nil}
+use Rattle.std.proofs.lemmas.Grind.{flat_map-append}
 use Rattle.std.proofs.lemmas.List.Sorted.{IsPermutation-refl, IsPermutation-cons, IsPermutation-trans, IsPermutation-append_left, IsPermutation-append_right, IsPermutation-append_comm}
 use Rattle.std.proofs.ByRecursion.{all_shuffled, All-append}
 use Rattle.conditions.specs.Choices.{positions}
@@ -12,38 +13,31 @@ use Rattle.book.specs.Lines.{Fact, impossible, kept}
 use Rattle.book.specs.Writes.{Rewrite, rewritten, original, copy, plainly_updated, stay_line, extra_line, split_lines, updated_lines}
 use Rattle.book.proofs.Possibly.{kept_possible, each_possible}
 
--- a possible line leaves what stands in its place, and what is added
-module _ (u : Rewrite) (f : Fact) where
-  gone : impossible f ≡ true → plainly_updated u f ≡ []
-  gone h =
-      let o : impossible (original u f) ≡ true = half_nowhere positions u.position false f.meaning h in
-      let c : impossible (copy u f) ≡ true = half_nowhere positions u.position true f.meaning h in
-      elim (rewritten u f) as (λ t. cond t (kept (original u f) ++ kept (copy u f)) (kept f) ≡ []) [ true ↦ rw (o, c) | false ↦ rw h ]
+-- what stands in a line's place, and what is added to it
+abbrev both : Rewrite → Fact → List Fact
+both u g = stay_line u g ∷ extra_line u g
 
-  copied : impossible f ≡ false → impossible (original u f) ≡ true → impossible (copy u f) ≡ false
-  copied h o =
-      ⊎_elim (λ c. absurd (both_ways (impossible f) h (halves_nowhere positions u.position f.meaning o c))) (λ c. c) (cases_Bool (impossible (copy u f)))
+-- a possible line leaves both, and an impossible one nothing
+left_of : (u : Rewrite) (f : Fact) → plainly_updated u f ≡ flat_map (both u) (kept f)
+left_of u f =
+    let a = append-nil (extra_line u f) in
+    elim (cases_Bool (impossible f)) [
+      | inl h ↦
+          let o : impossible (original u f) ≡ true = half_nowhere positions u.position false f.meaning h in
+          let c : impossible (copy u f) ≡ true = half_nowhere positions u.position true f.meaning h in
+          grind arith
+      | inr h ↦ elim (cases_Bool (impossible (original u f))) [
+        | inl o ↦ elim (cases_Bool (impossible (copy u f))) [
+          | inl c ↦ absurd (both_ways (impossible f) h (halves_nowhere positions u.position f.meaning o c))
+          | inr c ↦ grind arith
+        ]
+        | inr o ↦ grind arith
+      ]
+    ]
 
-  passed : (b : Bool) → impossible (original u f) ≡ b → impossible f ≡ false
-      → kept (original u f) ++ kept (copy u f) ≡ cond b (copy u f) (original u f) ∷ cond b [] (kept (copy u f))
-  passed true o h = rw (o, copied h o)
-  passed false o h = rw o
-
-  left_of : impossible f ≡ false → plainly_updated u f ≡ stay_line u f ∷ extra_line u f
-  left_of h =
-      let o = passed (impossible (original u f)) refl h in
-      elim (rewritten u f) as (λ t. cond t (kept (original u f) ++ kept (copy u f)) (kept f)
-      ≡ cond t (cond (impossible (original u f)) (copy u f) (original u f)) f ∷ cond t (cond (impossible (original u f)) [] (kept (copy u f))) [])
-      [ true ↦ o | false ↦ rw h ]
-
-  one : (b : Bool) → impossible f ≡ b → (rest : List Fact) (gs : List Fact) → rest ≡ flat_map (λ g. stay_line u g ∷ extra_line u g) gs
-      → plainly_updated u f ++ rest ≡ flat_map (λ g. stay_line u g ∷ extra_line u g) (cond b [] (f ∷ []) ++ gs)
-  one true e rest gs p = ap (λ l. l ++ rest) (gone e) ∙ p
-  one false e rest gs p = λ t. left_of e t ++ p t
-
-by_line : (u : Rewrite) (fs : List Fact) → flat_map (plainly_updated u) fs ≡ flat_map (λ g. stay_line u g ∷ extra_line u g) (flat_map kept fs)
+by_line : (u : Rewrite) (fs : List Fact) → flat_map (plainly_updated u) fs ≡ flat_map (both u) (flat_map kept fs)
 by_line u [] = refl
-by_line u (f ∷ fs) = one u f (impossible f) refl (flat_map (plainly_updated u) fs) (flat_map kept fs) (by_line u fs)
+by_line u (f ∷ fs) = (λ t. left_of u f t ++ by_line u fs t) ∙ sym (flat_map-append (both u) (kept f) (flat_map kept fs))
 
 -- what stands in their places, and then what is added
 module _ {X Y : Type 0} (s : Y → X) (e : Y → List X) where
