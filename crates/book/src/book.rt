@@ -13,7 +13,7 @@ use crate::numbers::after;
 use crate::pending::Pending;
 use crate::row::Row;
 use crate::steps::{Deciding, Deleting, compact};
-use crate::tables::count_rows;
+use crate::tables::View;
 use crate::update::{Update, update_lines};
 use crate::vote::{Vote, first_choices, orphans, vote_against};
 use conditions::Condition;
@@ -221,7 +221,8 @@ impl<'a, C: Condition> Book<'a, C> {
         check_table(table)?;
         self.check_choice(choice)?;
         let used = self.len();
-        Ok(count_rows(&self.lines[0..used], table, choice))
+        let view = View { table, choice };
+        Ok(view.count_rows(&self.lines[0..used]))
     }
 
     // Whether the transaction can commit and leave no shot without its cue, however the others end.
