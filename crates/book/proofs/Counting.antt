@@ -1,36 +1,26 @@
 -- Looking for a row, and counting distinct rows, line by line.
-use Rattle.std.proofs.Common.{◌≡◌, ℕ, ◌+◌, ◌<◌, Bool, true, false, cond, not, ◌&&◌, ◌||◌, List, ◌∷◌, map, length, get_or, drop, sym, ap, ◌∙◌, arith}
-use Rattle.std.proofs.lemmas.List.{drop_more}
+use Rattle.std.proofs.Common.{◌≡◌, ℕ, ◌+◌, ◌<◌, Bool, true, false, cond, not, ◌&&◌, ◌||◌, List, [], ◌∷◌, map, length, sym, refl, ap, ◌∙◌, arith}
+use Rattle.std.specs.List.{list_any}
 use Rattle.book.specs.declared.row.Row.{Row}
-use Rattle.book.specs.declared.line.Line.{Line}
-use Rattle.book.specs.Lines.{Fact, seen}
-use Rattle.book.specs.Tables.{same_row, stands, rows, has, distinct, row_count}
+use Rattle.book.specs.Lines.{Fact}
+use Rattle.book.specs.Tables.{stands, rows, has, distinct, row_count}
 
--- one line more
-module _ (table choice : ℕ) (f : Fact) (fs : List Fact) where
-  pub has_more : (r : Row) (b : Bool) → (stands table choice f && same_row f.row r) ≡ b → has r (rows table choice (f ∷ fs)) ≡ (b || has r (rows table choice fs))
-  has_more r b e = go (stands table choice f) e
-    where
-      go : (s : Bool) → (s && same_row f.row r) ≡ b → has r (cond s (f.row ∷ rows table choice fs) (rows table choice fs)) ≡ (b || has r (rows table choice fs))
-      go true e = ap (λ x. x || has r (rows table choice fs)) e
-      go false e = ap (λ x. x || has r (rows table choice fs)) e
+-- a row of the table passes a test where a line that stands in it has such a row
+module _ {X : Type 0} (v : X → Fact) (table choice : ℕ) (p : Row → Bool) where
+  abbrev pub stands_passing : X → Bool
+  stands_passing x = stands table choice (v x) && p (v x).row
 
-  pub count_more : (b : Bool) → (stands table choice f && not (has f.row (rows table choice fs))) ≡ b → row_count table choice (f ∷ fs) ≡ cond b 1 0 + row_count table choice fs
-  unfolding row_count
-  count_more b e = go (stands table choice f) e
-    where
-      found : (h : Bool) → not h ≡ b → length (cond h (distinct (rows table choice fs)) (f.row ∷ distinct (rows table choice fs))) ≡ cond b 1 0 + length (distinct (rows table choice fs))
-      found true e = rw (sym e) (omega arith)
-      found false e = rw (sym e) (omega arith)
+  pub any_row : (xs : List X) → list_any p (rows table choice (map v xs)) ≡ list_any stands_passing xs
+  any_row [] = refl
+  any_row (x ∷ xs) =
+      let rest = any_row xs in
+      elim (stands table choice (v x)) as (λ s. list_any p (cond s ((v x).row ∷ rows table choice (map v xs)) (rows table choice (map v xs))) ≡ ((s && p (v x).row) || list_any stands_passing xs)) [
+        | true ↦ ap (λ b. p (v x).row || b) rest
+        | false ↦ rest
+      ]
 
-      go : (s : Bool) → (s && not (has f.row (rows table choice fs))) ≡ b → length (distinct (cond s (f.row ∷ rows table choice fs) (rows table choice fs))) ≡ cond b 1 0 + length (distinct (rows table choice fs))
-      go true e = found (has f.row (rows table choice fs)) e
-      go false e = rw (sym e) (omega arith)
-
--- the line at a place of a slice
-pub has_step : {C : Type 0} (m : C → ℕ → Bool) (table choice : ℕ) (r : Row) (ls : List (Line C)) (i : ℕ) (l : Line C) (b : Bool) → i < length ls → l ≡ get_or ls i l
-    → b ≡ (stands table choice (seen m l) && same_row l.row r)
-    → has r (rows table choice (map (seen m) (drop i ls))) ≡ (b || has r (rows table choice (map (seen m) (drop (i + 1) ls))))
-has_step m table choice r ls i l b h is e =
-    ap (λ xs. has r (rows table choice (map (seen m) xs))) (drop_more ls i l h ∙ ap (λ x. x ∷ drop (i + 1) ls) (sym is))
-    ∙ has_more table choice (seen m l) (map (seen m) (drop (i + 1) ls)) r b (sym e)
+-- one line more: it counts where no line behind it shows its row
+pub count_more : {X : Type 0} (v : X → Fact) (table choice : ℕ) (x : X) (xs ys : List X) (b : Bool) → ys ≡ x ∷ xs
+    → b ≡ (stands table choice (v x) && not (has (v x).row (rows table choice (map v xs)))) → row_count table choice (map v ys) ≡ cond b 1 0 + row_count table choice (map v xs)
+unfolding row_count
+count_more v table choice x xs ys b whole e = rw whole (grind arith)

@@ -1,75 +1,57 @@
 -- An update leaves what it leaves line by line, in another order.
-use Rattle.std.proofs.Common.{◌≡◌, Bool, true, false, cond, List, [], ◌∷◌, ◌++◌, map, sym, refl, ap, ◌∙◌, subst, ⊎_elim, arith}
+use Rattle.std.proofs.Common.{◌≡◌, Bool, true, false, cond, List, [], ◌∷◌, ◌++◌, map, sym, refl, ap, ◌∙◌, subst, inl, inr, arith}
 use Rattle.std.specs.List.{flat_map, AllByRecursion}
 use Rattle.std.specs.List.Sorted.{IsPermutation}
 use Rattle.std.proofs.lemmas.Bool.{both_ways, cases_Bool}
-use Rattle.std.proofs.lemmas.List.Sorted.{IsPermutation-refl, IsPermutation-cons, IsPermutation-trans, IsPermutation-swap}
+use Rattle.std.proofs.lemmas.List.{append_assoc, append-nil}
+use Rattle.std.proofs.lemmas.Grind.{flat_map-append}
+use Rattle.std.proofs.lemmas.List.Sorted.{IsPermutation-refl, IsPermutation-cons, IsPermutation-trans, IsPermutation-append_left, IsPermutation-append_right, IsPermutation-append_comm}
 use Rattle.std.proofs.ByRecursion.{all_shuffled, All-append}
 use Rattle.conditions.specs.Choices.{positions}
 use Rattle.conditions.proofs.Meaning.{half_nowhere, halves_nowhere}
 use Rattle.book.specs.Lines.{Fact, impossible, kept}
 use Rattle.book.specs.Writes.{Rewrite, rewritten, original, copy, plainly_updated, stay_line, extra_line, split_lines, updated_lines}
-use Rattle.book.proofs.Possibly.{kept_possible}
+use Rattle.book.proofs.Possibly.{kept_possible, each_possible}
 
--- a possible line leaves what stands in its place, and what is added
-module _ (u : Rewrite) (f : Fact) where
-  gone : impossible f ≡ true → plainly_updated u f ≡ []
-  gone h =
-      let o : impossible (original u f) ≡ true = half_nowhere positions u.position false f.meaning h in
-      let c : impossible (copy u f) ≡ true = half_nowhere positions u.position true f.meaning h in
-      elim (rewritten u f) as (λ t. cond t (kept (original u f) ++ kept (copy u f)) (kept f) ≡ []) [ true ↦ rw (o, c) | false ↦ rw h ]
+-- what stands in a line's place, and what is added to it
+abbrev both : Rewrite → Fact → List Fact
+both u g = stay_line u g ∷ extra_line u g
 
-  copied : impossible f ≡ false → impossible (original u f) ≡ true → impossible (copy u f) ≡ false
-  copied h o =
-      ⊎_elim (λ c. absurd (both_ways (impossible f) h (halves_nowhere positions u.position f.meaning o c))) (λ c. c) (cases_Bool (impossible (copy u f)))
+-- a possible line leaves both, and an impossible one nothing
+left_of : (u : Rewrite) (f : Fact) → plainly_updated u f ≡ flat_map (both u) (kept f)
+left_of u f =
+    let a = append-nil (extra_line u f) in
+    elim (cases_Bool (impossible f)) [
+      | inl h ↦
+          let o : impossible (original u f) ≡ true = half_nowhere positions u.position false f.meaning h in
+          let c : impossible (copy u f) ≡ true = half_nowhere positions u.position true f.meaning h in
+          grind arith
+      | inr h ↦ elim (cases_Bool (impossible (original u f))) [
+        | inl o ↦ elim (cases_Bool (impossible (copy u f))) [
+          | inl c ↦ absurd (both_ways (impossible f) h (halves_nowhere positions u.position f.meaning o c))
+          | inr c ↦ grind arith
+        ]
+        | inr o ↦ grind arith
+      ]
+    ]
 
-  passed : (b : Bool) → impossible (original u f) ≡ b → impossible f ≡ false
-      → kept (original u f) ++ kept (copy u f) ≡ cond b (copy u f) (original u f) ∷ cond b [] (kept (copy u f))
-  passed true o h = rw (o, copied h o)
-  passed false o h = rw o
-
-  left_of : impossible f ≡ false → plainly_updated u f ≡ stay_line u f ∷ extra_line u f
-  left_of h =
-      let o = passed (impossible (original u f)) refl h in
-      elim (rewritten u f) as (λ t. cond t (kept (original u f) ++ kept (copy u f)) (kept f)
-      ≡ cond t (cond (impossible (original u f)) (copy u f) (original u f)) f ∷ cond t (cond (impossible (original u f)) [] (kept (copy u f))) [])
-      [ true ↦ o | false ↦ rw h ]
-
-  one : (b : Bool) → impossible f ≡ b → (rest : List Fact) (gs : List Fact) → rest ≡ flat_map (λ g. stay_line u g ∷ extra_line u g) gs
-      → plainly_updated u f ++ rest ≡ flat_map (λ g. stay_line u g ∷ extra_line u g) (cond b [] (f ∷ []) ++ gs)
-  one true e rest gs p = ap (λ l. l ++ rest) (gone e) ∙ p
-  one false e rest gs p = λ t. left_of e t ++ p t
-
-by_line : (u : Rewrite) (fs : List Fact) → flat_map (plainly_updated u) fs ≡ flat_map (λ g. stay_line u g ∷ extra_line u g) (flat_map kept fs)
+by_line : (u : Rewrite) (fs : List Fact) → flat_map (plainly_updated u) fs ≡ flat_map (both u) (flat_map kept fs)
 by_line u [] = refl
-by_line u (f ∷ fs) = one u f (impossible f) refl (flat_map (plainly_updated u) fs) (flat_map kept fs) (by_line u fs)
+by_line u (f ∷ fs) = (λ t. left_of u f t ++ by_line u fs t) ∙ sym (flat_map-append (both u) (kept f) (flat_map kept fs))
 
--- x from the front to the middle
-module _ {X : Type 0} where
-  inward : (x : X) (ys zs : List X) → IsPermutation (x ∷ ys ++ zs) (ys ++ x ∷ zs)
-  inward x [] zs = IsPermutation-refl (x ∷ zs)
-  inward x (a ∷ ys) zs =
-      IsPermutation-trans (x ∷ a ∷ ys ++ zs) (a ∷ x ∷ ys ++ zs) (a ∷ ys ++ x ∷ zs)
-      (IsPermutation-swap (x ∷ a ∷ ys ++ zs) (a ∷ x ∷ ys ++ zs) 0 1 (omega arith) (omega arith) refl)
-      (IsPermutation-cons a (x ∷ ys ++ zs) (ys ++ x ∷ zs) (inward x ys zs))
-
-  -- some of them
+-- what stands in their places, and then what is added
+module _ {X Y : Type 0} (s : Y → X) (e : Y → List X) where
   all_inward : (xs ys zs : List X) → IsPermutation (xs ++ (ys ++ zs)) (ys ++ (xs ++ zs))
-  all_inward [] ys zs = IsPermutation-refl (ys ++ zs)
-  all_inward (x ∷ xs) ys zs =
-      IsPermutation-trans (x ∷ (xs ++ (ys ++ zs))) (x ∷ (ys ++ (xs ++ zs))) (ys ++ x ∷ (xs ++ zs))
-      (IsPermutation-cons x (xs ++ (ys ++ zs)) (ys ++ (xs ++ zs)) (all_inward xs ys zs)) (inward x ys (xs ++ zs))
+  all_inward xs ys zs =
+      let h = IsPermutation-append_left zs (xs ++ ys) (ys ++ xs) (IsPermutation-append_comm xs ys) in
+      rw (← append_assoc xs ys zs, ← append_assoc ys xs zs) h
 
-  under : (xs ys zs : List X) → IsPermutation ys zs → IsPermutation (xs ++ ys) (xs ++ zs)
-  under [] ys zs h = h
-  under (x ∷ xs) ys zs h = IsPermutation-cons x (xs ++ ys) (xs ++ zs) (under xs ys zs h)
-
-  apart : {Y : Type 0} (s : Y → X) (e : Y → List X) (gs : List Y) → IsPermutation (flat_map (λ g. s g ∷ e g) gs) (map s gs ++ flat_map e gs)
-  apart s e [] = IsPermutation-refl []
-  apart s e (g ∷ gs) =
+  apart : (gs : List Y) → IsPermutation (flat_map (λ g. s g ∷ e g) gs) (map s gs ++ flat_map e gs)
+  apart [] = IsPermutation-refl []
+  apart (g ∷ gs) =
       IsPermutation-cons (s g) (e g ++ flat_map (λ g. s g ∷ e g) gs) (map s gs ++ (e g ++ flat_map e gs))
       (IsPermutation-trans (e g ++ flat_map (λ g. s g ∷ e g) gs) (e g ++ (map s gs ++ flat_map e gs)) (map s gs ++ (e g ++ flat_map e gs))
-      (under (e g) (flat_map (λ g. s g ∷ e g) gs) (map s gs ++ flat_map e gs) (apart s e gs)) (all_inward (e g) (map s gs) (flat_map e gs)))
+      (IsPermutation-append_right (e g) (flat_map (λ g. s g ∷ e g) gs) (map s gs ++ flat_map e gs) (apart gs)) (all_inward (e g) (map s gs) (flat_map e gs)))
 
 pub update_is_plain : (u : Rewrite) (fs : List Fact) → IsPermutation (flat_map (plainly_updated u) fs) (updated_lines u fs)
 unfolding updated_lines split_lines
@@ -87,9 +69,5 @@ both_possible u f =
       | false ↦ kept_possible f _ refl
     ]
 
-lines_possible : (u : Rewrite) (fs : List Fact) → AllByRecursion Possible (flat_map (plainly_updated u) fs)
-lines_possible u [] = tt
-lines_possible u (f ∷ fs) = All-append Possible (plainly_updated u f) (flat_map (plainly_updated u) fs) (both_possible u f) (lines_possible u fs)
-
 pub update_leaves_possible : (u : Rewrite) (fs : List Fact) → AllByRecursion Possible (updated_lines u fs)
-update_leaves_possible u fs = all_shuffled Possible (flat_map (plainly_updated u) fs) (updated_lines u fs) (update_is_plain u fs) (lines_possible u fs)
+update_leaves_possible u fs = all_shuffled Possible (flat_map (plainly_updated u) fs) (updated_lines u fs) (update_is_plain u fs) (each_possible (plainly_updated u) (both_possible u) fs)

@@ -10,10 +10,13 @@ pub kept_possible : (f : Fact) (b : Bool) → impossible f ≡ b → AllByRecurs
 kept_possible f true e = tt
 kept_possible f false e = (e, tt)
 
+-- where each line leaves possible lines alone, so do all of them
+pub each_possible : (h : Fact → List Fact) → ((f : Fact) → AllByRecursion (λ f. impossible f ≡ false) (h f)) → (fs : List Fact) → AllByRecursion (λ f. impossible f ≡ false) (flat_map h fs)
+each_possible h one [] = tt
+each_possible h one (f ∷ fs) = All-append _ (h f) (flat_map h fs) (one f) (each_possible h one fs)
+
 pub decided_possible : (i : ℕ) (s : Bool) (fs : List Fact) → AllByRecursion (λ f. impossible f ≡ false) (flat_map (decided_line i s) fs)
-decided_possible i s [] = tt
-decided_possible i s (f ∷ fs) = All-append _ (decided_line i s f) (flat_map (decided_line i s) fs) (kept_possible _ _ refl) (decided_possible i s fs)
+decided_possible i s = each_possible (decided_line i s) (λ f. kept_possible _ _ refl)
 
 pub deleted_possible : (i table : ℕ) (p : Row → Bool) (fs : List Fact) → AllByRecursion (λ f. impossible f ≡ false) (flat_map (deleted_line i table p) fs)
-deleted_possible i table p [] = tt
-deleted_possible i table p (f ∷ fs) = All-append _ (deleted_line i table p f) (flat_map (deleted_line i table p) fs) (kept_possible _ _ refl) (deleted_possible i table p fs)
+deleted_possible i table p = each_possible (deleted_line i table p) (λ f. kept_possible _ _ refl)

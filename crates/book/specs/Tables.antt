@@ -1,5 +1,6 @@
 -- Tables under a choice.
-use Rattle.std.specs.Prelude.{ℕ, Bool, false, cond, ◌&&◌, ◌||◌, List, [], ◌∷◌, length, ◌==◌}
+use Rattle.std.specs.Prelude.{ℕ, Bool, cond, ◌&&◌, List, [], ◌∷◌, length, ◌==◌}
+use Rattle.std.specs.List.{list_any}
 use Rattle.book.specs.declared.row.Row.{Row}
 use Rattle.book.specs.Lines.{Fact}
 
@@ -16,8 +17,7 @@ rows table choice [] = []
 rows table choice (f ∷ fs) = cond (stands table choice f) (f.row ∷ rows table choice fs) (rows table choice fs)
 
 abbrev pub has : Row → List Row → Bool
-has r [] = false
-has r (x ∷ xs) = same_row x r || has r xs
+has r rs = list_any (λ x. same_row x r) rs
 
 -- each row once
 abbrev pub distinct : List Row → List Row

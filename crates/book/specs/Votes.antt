@@ -1,5 +1,6 @@
 -- Votes: whether a transaction can commit and leave no shot without its cue.
-use Rattle.std.specs.Prelude.{◌≡◌, ℕ, zero, suc, ◌+◌, ◌<◌, Bool, true, false, cond, not, ◌||◌, List, [], ◌∷◌, Some, None, Option, ◌==◌}
+use Rattle.std.specs.Prelude.{◌≡◌, ℕ, zero, suc, ◌+◌, ◌<◌, Bool, true, false, cond, not, List, Some, None, Option, ◌==◌}
+use Rattle.std.specs.List.{list_any}
 use Rattle.book.specs.declared.row.Row.{Row}
 use Rattle.book.specs.declared.vote.Vote.{Vote}
 use Rattle.book.specs.declared.vote.Vote.TheVariants.{Yes, No}
@@ -8,16 +9,14 @@ use Rattle.book.specs.Tables.{rows}
 
 -- some row has this cue number
 abbrev pub has_cue : ℕ → List Row → Bool
-has_cue cue [] = false
-has_cue cue (r ∷ rs) = r.first == cue || has_cue cue rs
+has_cue cue rs = list_any (λ r. r.first == cue) rs
 
 -- a shot whose cue is not among the music cues
 abbrev pub orphan : Row → List Row → Bool
 orphan shot cues = not (has_cue shot.first cues)
 
 abbrev pub some_orphan : List Row → List Row → Bool
-some_orphan [] cues = false
-some_orphan (shot ∷ shots) cues = orphan shot cues || some_orphan shots cues
+some_orphan shots cues = list_any (λ shot. orphan shot cues) shots
 
 -- the firing script has an orphan under the choice
 unfoldable pub orphaned : ℕ → List Fact → Bool

@@ -12,7 +12,7 @@ use crate::filter::{Filter, RawFilter};
 use crate::line::Line;
 use crate::lines::Lines;
 use crate::row::Row;
-use crate::tables::count_rows;
+use crate::tables::View;
 use crate::update::Update;
 use crate::vote::{Vote, first_choices, orphans, vote_against};
 use arrayvec::ArrayVec;
@@ -199,7 +199,8 @@ impl<'a, C: Condition> Book<'a, C> {
     {
         check_table(table)?;
         self.check_choice(choice)?;
-        Ok(count_rows(self.lines.as_slice(), table, choice))
+        let view = View { table, choice };
+        Ok(view.count_rows(self.lines.as_slice()))
     }
 
     // Whether the transaction can commit and leave no shot without its cue, however the others end.

@@ -6,56 +6,54 @@ use crate::line::Line;
 use crate::row::Row;
 use conditions::Condition;
 
-fn same(a: Row, b: Row) -> bool
-    ensures { result ≡ same_row a b }
-{
-    a == b
+// A table under a choice.
+#[derive(Clone, Copy)]
+pub(crate) struct View {
+    pub(crate) table: u8,
+    pub(crate) choice: u8,
 }
 
-// Whether the line is of the table, and holds under the choice.
-fn stands_in<C: Condition>(line: &Line<C>, table: u8, choice: u8) -> bool
-    ensures { result ≡ stands table choice (seen C.Condition.meaning line.now) }
-{
-    line.table == table && line.condition.holds(choice)
-}
-
-// Whether the line shows the row in the table under the choice. Most rows differ in their first number.
-fn shows<C: Condition>(line: &Line<C>, table: u8, choice: u8, row: Row) -> bool
-    ensures { result ≡ (stands table choice (seen C.Condition.meaning line.now) && same_row line.now.row row) }
-{
-    line.row.first == row.first && stands_in(line, table, choice) && same(line.row, row)
-}
-
-// Whether the table has the row under the choice.
-fn has_row<C: Condition>(lines: &[Line<C>], table: u8, choice: u8, row: Row) -> bool
-    ensures { result ≡ has row (rows table choice (map (seen C.Condition.meaning) lines.now)) }
-{
-    for line in lines {
-        if shows(line, table, choice, row) {
-            return true;
-        }
+impl View {
+    // Whether the line is of the table, and holds under the choice.
+    fn has_line<C: Condition>(self, line: &Line<C>) -> bool
+        ensures { result ≡ stands self.table self.choice (seen C.Condition.meaning line.now) }
+    {
+        line.table == self.table && line.condition.holds(self.choice)
     }
-    false
-}
 
-// Whether the line is the last that shows its row.
-fn is_last<C: Condition>(line: &Line<C>, rest: &[Line<C>], table: u8, choice: u8) -> bool
-    ensures { result ≡ (stands table choice (seen C.Condition.meaning line.now) && not (has line.now.row (rows table choice (map (seen C.Condition.meaning) rest.now)))) }
-{
-    stands_in(line, table, choice) && !has_row(rest, table, choice, line.row)
-}
-
-// How many distinct rows the table has under the choice: each counts at its last line.
-pub(crate) fn count_rows<C: Condition>(lines: &[Line<C>], table: u8, choice: u8) -> usize
-    ensures { result ≡ row_count table choice (map (seen C.Condition.meaning) lines.now) }
-{
-    let mut count = 0;
-    let mut left = lines;
-    while let Some((line, rest)) = left.split_first() {
-        if is_last(line, rest, table, choice) {
-            count += 1;
-        }
-        left = rest;
+    // Whether the line shows the row. Most rows differ in their first number.
+    fn shows<C: Condition>(self, line: &Line<C>, row: Row) -> bool
+        ensures { result ≡ (stands self.table self.choice (seen C.Condition.meaning line.now) && same_row line.now.row row) }
+    {
+        line.row.first == row.first && self.has_line(line) && line.row == row
     }
-    count
+
+    fn has_row<C: Condition>(self, lines: &[Line<C>], row: Row) -> bool
+        ensures { result ≡ has row (rows self.table self.choice (map (seen C.Condition.meaning) lines.now)) }
+    {
+        lines.iter().any(|line| self.shows(line, row))
+    }
+
+    // Whether the line is the last that shows its row.
+    fn is_last<C: Condition>(self, line: &Line<C>, rest: &[Line<C>]) -> bool
+        ensures { result ≡ (stands self.table self.choice (seen C.Condition.meaning line.now) && not (has line.now.row (rows self.table self.choice (map (seen C.Condition.meaning) rest.now)))) }
+    {
+        self.has_line(line) && !self.has_row(rest, line.row)
+    }
+
+    // How many distinct rows there are: each counts at its last line.
+    // A loop over what is left: each line is asked about with the lines behind it, which no iterator lends.
+    pub(crate) fn count_rows<C: Condition>(self, lines: &[Line<C>]) -> usize
+        ensures { result ≡ row_count self.table self.choice (map (seen C.Condition.meaning) lines.now) }
+    {
+        let mut count = 0;
+        let mut left = lines;
+        while let Some((line, rest)) = left.split_first() {
+            if self.is_last(line, rest) {
+                count += 1;
+            }
+            left = rest;
+        }
+        count
+    }
 }

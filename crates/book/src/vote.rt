@@ -8,17 +8,24 @@ use crate::line::Line;
 use conditions::Condition;
 
 // A transaction's vote: yes, or no with the lowest choice in which it commits and a shot has no cue.
-#[derive(Clone, Copy)]
+// Not an Option: `None` for yes, or for no, would be no plainer.
+#[derive(Clone, Copy, Debug, PartialEq, Eq)]
 pub enum Vote {
     Yes,
     No(u8),
 }
 
+// The table of the firing script.
+const SCRIPT: u8 = 1;
+
+// The table of the music cues.
+const CUES: u8 = 2;
+
 // The cue is compared first: few lines have it.
 fn is_cue<C: Condition>(line: &Line<C>, cue: u32) -> bool
     ensures { result ≡ (line.now.table == 2 && line.now.row.first == cue) }
 {
-    line.row.first == cue && line.table == 2
+    line.row.first == cue && line.table == CUES
 }
 
 // Those of the choices in which no line here has the cue of the music, one bit for each.
@@ -27,12 +34,11 @@ fn uncued<C: Condition>(lines: &[Line<C>], cue: u32, choices: u64) -> u64
     ensures { (c : ℕ) → c < 2 ^ positions → bit c result ≡ (bit c choices && not (has_cue cue (rows 2 c (map (seen C.Condition.meaning) lines.now)))) }
 {
     let mut left = choices;
-    for at in (0..lines.len()).rev() {
+    for line in lines.iter().rev() {
         if left == 0 {
             return 0;
         }
-        let line = lines[at];
-        if is_cue(&line, cue) {
+        if is_cue(line, cue) {
             left &= !line.condition.verdicts();
         }
     }
@@ -45,12 +51,12 @@ pub(crate) fn orphans<C: Condition>(lines: &[Line<C>], choices: u64) -> u64
     ensures { (c : ℕ) → c < 2 ^ positions → bit c result ≡ (bit c choices && orphaned c (map (seen C.Condition.meaning) lines.now)) }
 {
     let mut found = 0;
-    for at in 0..lines.len() {
-        let line = lines[at];
-        if line.table == 1 {
+    for (at, line) in lines.iter().enumerate() {
+        if line.table == SCRIPT {
             let open = choices & !found & line.condition.verdicts();
-            let left = uncued(&lines[0..at], line.row.first, open);
-            found |= uncued(&lines[at..], line.row.first, left);
+            let (front, rest) = lines.split_at(at);
+            let left = uncued(front, line.row.first, open);
+            found |= uncued(rest, line.row.first, left);
         }
     }
     found
