@@ -43,8 +43,7 @@ module _ (t c : ℕ) (r : Row) where
   shuffled_has fs gs h = by_line fs ∙ list_any-IsPermutation shows_row fs gs h ∙ sym (by_line gs)
 
 at_table : {A B : Type 0} (b : Bool) (f g : A → B) (t : A) → cond b (f t) (g t) ≡ cond b f g t
-at_table true f g t = refl
-at_table false f g t = refl
+at_table b f g t = grind arith
 
 -- what a write does to the rows of a table, in parts
 module _ (b e : Bool) where

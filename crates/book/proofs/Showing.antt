@@ -18,7 +18,7 @@ module _ (t c : ℕ) where
   shows f = rows t c (f ∷ [])
 
   rows_more : (f : Fact) (fs : List Fact) → rows t c (f ∷ fs) ≡ shows f ++ rows t c fs
-  rows_more f fs = elim (stands t c f) as (λ b. cond b (f.row ∷ rows t c fs) (rows t c fs) ≡ cond b (f.row ∷ []) [] ++ rows t c fs) [ true ↦ refl | false ↦ refl ]
+  rows_more f fs = grind arith
 
   pub rows_append : (fs gs : List Fact) → rows t c (fs ++ gs) ≡ rows t c fs ++ rows t c gs
   rows_append [] gs = refl
@@ -76,17 +76,13 @@ module _ (i : ℕ) (at : i < positions) (c : ℕ) (among : c < 2 ^ positions) (t
   pub delete_one : (table : ℕ) (p : Row → Bool) (f : Fact)
       → rows t c (deleted_line i table p f) ≡ cond (bit i c) (cond (eqb table t) (filter (λ r. not (p r)) (rows t c (f ∷ []))) (rows t c (f ∷ []))) (rows t c (f ∷ []))
   delete_one table p f =
-      let k = one_kept (λ r. not (p r)) (stands t c f) f.row in
       let n = narrowed_at false f.meaning in
-      let s = same_table f.table table t in
       kept_shows t c among (cond (touched table p f) (ending i false f) f) ∙ grind (arith, nat_tests)
 
   -- Decide
   pub decide_one : (s : Bool) (f : Fact) → rows t c (decided_line i s f) ≡ rows t (source positions i s c) (f ∷ [])
   unfolding deciding
   decide_one s f =
-      let a = lt-ltb i positions at in
-      let l = lt-ltb c (2 ^ positions) among in
       kept_shows t c among (record { table = f.table; row = f.row; meaning = deciding positions i s f.meaning }) ∙ grind (arith, nat_tests)
 
   -- Update
@@ -100,11 +96,9 @@ module _ (i : ℕ) (at : i < positions) (c : ℕ) (among : c < 2 ^ positions) (t
           let k = one_mapped (λ r. cond (u.passing r) (u.changing r) r) (stands t c f) f.row in
           let a : narrowing positions u.position false f.meaning c ≡ (f.meaning c && not (bit i c)) = rw e (narrowed_at false f.meaning) in
           let b : narrowing positions u.position true f.meaning c ≡ (f.meaning c && bit i c) = rw e (narrowed_at true f.meaning) in
-          let s = same_table f.table u.table t in
           rows_append t c (kept (original u f)) (kept (copy u f))
           ∙ (λ k. kept_shows t c among (original u f) k ++ kept_shows t c among (copy u f) k)
           ∙ grind (arith, nat_tests)
       go false h =
           let k = one_mapped (λ r. cond (u.passing r) (u.changing r) r) (stands t c f) f.row in
-          let s = same_table f.table u.table t in
           kept_shows t c among f ∙ grind (arith, nat_tests)
