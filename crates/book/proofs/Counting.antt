@@ -14,10 +14,7 @@ module _ {X : Type 0} (v : X → Fact) (table choice : ℕ) (p : Row → Bool) w
   any_row [] = refl
   any_row (x ∷ xs) =
       let rest = any_row xs in
-      elim (stands table choice (v x)) as (λ s. list_any p (cond s ((v x).row ∷ rows table choice (map v xs)) (rows table choice (map v xs))) ≡ ((s && p (v x).row) || list_any stands_passing xs)) [
-        | true ↦ ap (λ b. p (v x).row || b) rest
-        | false ↦ rest
-      ]
+      grind arith
 
 -- one line more: it counts where no line behind it shows its row
 pub count_more : {X : Type 0} (v : X → Fact) (table choice : ℕ) (x : X) (xs ys : List X) (b : Bool) → ys ≡ x ∷ xs

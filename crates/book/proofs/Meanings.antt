@@ -6,6 +6,7 @@ use Rattle.std.proofs.lemmas.List.{map-append, map-id}
 use Rattle.std.proofs.lemmas.List.Elements.{filter-append}
 use Rattle.std.proofs.lemmas.List.Sorted.{list_any-IsPermutation}
 use Rattle.std.proofs.lemmas.Bool.{not-false}
+use Rattle.std.proofs.lemmas.Bool.Decides.{nat_tests}
 use Rattle.conditions.specs.Choices.{positions, bit}
 use Rattle.book.specs.declared.row.Row.{Row}
 use Rattle.book.specs.Lines.{Fact, decided_line}
@@ -21,12 +22,9 @@ use Rattle.book.proofs.Showing.{each_shows, insert_shows, delete_one, decide_one
 -- a number that is pending stands at a position of the list
 place_below : (k n : ℕ) (xs : List ℕ) → is_some (place_from k n xs) ≡ true → or_zero (place_from k n xs) < k + length xs
 place_below k n [] e = let z : ◌≡◌ {A = ℕ} 0 1 = cc in absurd (omega arith)
-place_below k n (x ∷ xs) e = go (eqb x n) e (place_below (k + 1) n xs)
-  where
-    go : (b : Bool) → is_some (cond b (Some k) (place_from (k + 1) n xs)) ≡ true → (is_some (place_from (k + 1) n xs) ≡ true → or_zero (place_from (k + 1) n xs) < k + 1 + length xs)
-        → or_zero (cond b (Some k) (place_from (k + 1) n xs)) < k + length (x ∷ xs)
-    go true e rest = omega arith
-    go false e rest = omega (arith, rest e)
+place_below k n (x ∷ xs) e =
+    let rest = place_below (k + 1) n xs in
+    grind (arith, nat_tests)
 
 pub position_below : (n : ℕ) (s : State) → not (is_some (place n s.pending)) ≡ false → length s.pending ≤ positions → position n s < positions
 position_below n s e h = let l = place_below 0 n s.pending (not-false _ e) in omega arith

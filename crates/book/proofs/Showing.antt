@@ -23,8 +23,8 @@ module _ (t c : ℕ) where
   pub rows_append : (fs gs : List Fact) → rows t c (fs ++ gs) ≡ rows t c fs ++ rows t c gs
   rows_append [] gs = refl
   rows_append (f ∷ fs) gs =
-      rows_more f (fs ++ gs) ∙ ap (λ rs. shows f ++ rs) (rows_append fs gs)
-      ∙ sym (append_assoc (shows f) (rows t c fs) (rows t c gs)) ∙ ap (λ rs. rs ++ rows t c gs) (sym (rows_more f fs))
+      let rest = rows_append fs gs in
+      grind arith
 
   -- a line that is impossible shows nothing
   pub kept_shows : c < 2 ^ positions → (f : Fact) → rows t c (kept f) ≡ shows f
@@ -43,19 +43,6 @@ module _ (t c d : ℕ) (w : List Row → List Row) (none : w [] ≡ []) (more : 
       rows_append t c (h f) (flat_map h fs) ∙ (λ k. one f k ++ each_shows fs k)
       ∙ sym (more (rows t d (f ∷ [])) (rows t d fs)) ∙ ap w (sym (rows_more t d f fs))
 
--- what a row at most becomes
-
-one_kept : (q : Row → Bool) (s : Bool) (x : Row) → filter q (cond s (x ∷ []) []) ≡ cond (s && q x) (x ∷ []) []
-one_kept q true x = refl
-one_kept q false x = refl
-
-one_mapped : (g : Row → Row) (s : Bool) (x : Row) → map g (cond s (x ∷ []) []) ≡ cond s (g x ∷ []) []
-one_mapped g true x = refl
-one_mapped g false x = refl
-
-same_table : (a b t : ℕ) → eqb a t ≡ true → eqb a b ≡ eqb b t
-same_table a b t e = grind (arith, nat_tests)
-
 -- a transaction at position i, and a choice c
 module _ (i : ℕ) (at : i < positions) (c : ℕ) (among : c < 2 ^ positions) (t : ℕ) where
   pub narrowed_at : (s : Bool) (m : ℕ → Bool) → narrowing positions i s m c ≡ (m c && same s (bit i c))
@@ -66,11 +53,10 @@ module _ (i : ℕ) (at : i < positions) (c : ℕ) (among : c < 2 ^ positions) (t
   pub insert_shows : (table : ℕ) (r : Row) (fs : List Fact)
       → rows t c (fs ++ inserted_line i table r ∷ []) ≡ cond (bit i c) (cond (eqb table t) (rows t c fs ++ r ∷ []) (rows t c fs)) (rows t c fs)
   insert_shows table r fs =
-      rows_append t c fs (inserted_line i table r ∷ [])
-      ∙ go (rows t c fs) (eqb table t) (bit i c) _ (narrowed_at true (everywhere positions) ∙ ap (λ b. b && bit i c) (lt-ltb c (2 ^ positions) among))
-    where
-      go : (rs : List Row) (e b m : Bool) → m ≡ b → rs ++ cond (e && m) (r ∷ []) [] ≡ cond b (cond e (rs ++ r ∷ []) rs) rs
-      go rs e b m h = let n = append-nil rs in grind (arith, nat_tests)
+      let m = narrowed_at true (everywhere positions) in
+      let l = lt-ltb c (2 ^ positions) among in
+      let n = append-nil (rows t c fs) in
+      rows_append t c fs (inserted_line i table r ∷ []) ∙ grind (arith, nat_tests)
 
   -- Delete
   pub delete_one : (table : ℕ) (p : Row → Bool) (f : Fact)
@@ -88,17 +74,11 @@ module _ (i : ℕ) (at : i < positions) (c : ℕ) (among : c < 2 ^ positions) (t
   -- Update
   pub update_one : (u : Rewrite) → u.position ≡ i → (f : Fact)
       → rows t c (plainly_updated u f) ≡ cond (bit i c) (cond (eqb u.table t) (map (λ r. cond (u.passing r) (u.changing r) r) (rows t c (f ∷ []))) (rows t c (f ∷ []))) (rows t c (f ∷ []))
-  update_one u e f = go (rewritten u f) refl
-    where
-      go : (b : Bool) → rewritten u f ≡ b
-          → rows t c (cond b (kept (original u f) ++ kept (copy u f)) (kept f)) ≡ cond (bit i c) (cond (eqb u.table t) (map (λ r. cond (u.passing r) (u.changing r) r) (rows t c (f ∷ []))) (rows t c (f ∷ []))) (rows t c (f ∷ []))
-      go true h =
-          let k = one_mapped (λ r. cond (u.passing r) (u.changing r) r) (stands t c f) f.row in
-          let a : narrowing positions u.position false f.meaning c ≡ (f.meaning c && not (bit i c)) = rw e (narrowed_at false f.meaning) in
-          let b : narrowing positions u.position true f.meaning c ≡ (f.meaning c && bit i c) = rw e (narrowed_at true f.meaning) in
-          rows_append t c (kept (original u f)) (kept (copy u f))
-          ∙ (λ k. kept_shows t c among (original u f) k ++ kept_shows t c among (copy u f) k)
-          ∙ grind (arith, nat_tests)
-      go false h =
-          let k = one_mapped (λ r. cond (u.passing r) (u.changing r) r) (stands t c f) f.row in
-          kept_shows t c among f ∙ grind (arith, nat_tests)
+  update_one u e f =
+      let a : narrowing positions u.position false f.meaning c ≡ (f.meaning c && not (bit i c)) = rw e (narrowed_at false f.meaning) in
+      let b : narrowing positions u.position true f.meaning c ≡ (f.meaning c && bit i c) = rw e (narrowed_at true f.meaning) in
+      let o = kept_shows t c among (original u f) in
+      let p = kept_shows t c among (copy u f) in
+      let q = kept_shows t c among f in
+      let r = rows_append t c (kept (original u f)) (kept (copy u f)) in
+      grind (arith, nat_tests)

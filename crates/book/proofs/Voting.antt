@@ -34,7 +34,7 @@ module _ {C : Type 0} (m : C → ℕ → Bool) (c : ℕ) where
 
     cued_push : (ls : List (Line C)) (l : Line C) → cued (ls ++ l ∷ []) ≡ (cued ls || is_cue l)
     cued_push ls l =
-        cued_append ls (l ∷ []) ∙ ap (λ b. cued ls || b) (any_row (seen m) 2 c (λ r. eqb r.first cue) (l ∷ []) ∙ or-false (is_cue l))
+        cued_append ls (l ∷ []) ∙ ap (λ b. cued ls || b) (grind arith)
 
     -- one line more, from the last back: v has the choices so far, and w those in which the line holds
     module _ (v : ℕ) (ls : List (Line C)) (l : Line C) where
@@ -57,14 +57,11 @@ module _ {C : Type 0} (m : C → ℕ → Bool) (c : ℕ) where
     abbrev is_orphan : Line C → Bool
     is_orphan = stands_passing (seen m) 1 c (λ r. orphan r cues)
 
-    lacking_more : (ls : List (Line C)) (i : ℕ) (l : Line C) → i < length ls → lacking (take (i + 1) ls) ≡ (lacking (take i ls) || is_orphan (get_or ls i l))
-    lacking_more ls i l h =
-        let by_line = any_row (seen m) 1 c (λ r. orphan r cues) in
-        by_line (take (i + 1) ls) ∙ list_any_more is_orphan ls i l h ∙ ap (λ b. b || is_orphan (get_or ls i l)) (sym (by_line (take i ls)))
-
     module _ (a v i : ℕ) (ls : List (Line C)) (l : Line C) (within : i < length ls) (at : l ≡ get_or ls i l) (before : bit c v ≡ (bit c a && lacking (take i ls))) where
       more : lacking (take (i + 1) ls) ≡ (lacking (take i ls) || is_orphan l)
-      more = lacking_more ls i l within ∙ ap (λ x. lacking (take i ls) || is_orphan x) (sym at)
+      more =
+          let by_line = any_row (seen m) 1 c (λ r. orphan r cues) in
+          by_line (take (i + 1) ls) ∙ list_any_more is_orphan ls i l within ∙ (λ k. sym (by_line (take i ls)) k || is_orphan (sym at k))
 
       pub orphan_then : (w q : ℕ) → v < 2 ^ 64 → c < 64 → l.table ≡ 1 → bit c w ≡ m l.condition c
           → bit c q ≡ (bit c (bit_and (bit_and a (2 ^ 64 - 1 - v)) w) && not (has_cue l.row.first cues))
