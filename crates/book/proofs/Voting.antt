@@ -41,10 +41,7 @@ module _ {C : Type 0} (m : C → ℕ → Bool) (c : ℕ) where
       pub cue_then : (w : ℕ) → w < 2 ^ 64 → c < 64 → true ≡ (eqb l.table 2 && eqb l.row.first cue) → bit c w ≡ m l.condition c
           → (bit c (bit_and v (2 ^ 64 - 1 - w)) && not (cued ls)) ≡ (bit c v && not (cued (ls ++ l ∷ [])))
       cue_then w small among is holds =
-          let a = bit_of_and c v (2 ^ 64 - 1 - w) in
-          let n = bit_not 64 c w small among in
-          let p = cued_push ls l in
-          grind (arith, nat_tests)
+          grind (arith, nat_tests, bit_of_and c v (2 ^ 64 - 1 - w), bit_not 64 c w small among, cued_push ls l)
 
       pub cue_else : false ≡ (eqb l.table 2 && eqb l.row.first cue) → (bit c v && not (cued ls)) ≡ (bit c v && not (cued (ls ++ l ∷ [])))
       cue_else is = let p = cued_push ls l in grind (arith, nat_tests)
@@ -90,10 +87,10 @@ first_set x h l =
 -- of the first m alone
 widened : (k m : ℕ) (t u : ℕ → Bool) → m ≤ k → ((d : ℕ) → d < k → t d ≡ (ltb d m && u d)) → (o : Option ℕ) → Finds 0 m u o → Finds 0 k t o
 widened k m t u h same None f = λ d l n.
-    same d (omega arith) ∙ elim (cases_lt d m) [ inl p ↦ let q = f d l (omega arith) in grind (arith, nat_tests) | inr p ↦ grind (arith, nat_tests) ]
+    same d (omega arith) ∙ elim (cases_lt d m) [ inl p ↦ grind (arith, nat_tests, f d l (omega arith)) | inr p ↦ grind (arith, nat_tests) ]
 widened k m t u h same (Some e) f =
     let s = same e (omega (arith, f.0)) in
-    (omega (arith, f.0), grind (arith, nat_tests, f.0, f.1), λ d l n. same d (omega (arith, f.0)) ∙ (let q = f.2 d l n in grind (arith, nat_tests)))
+    (omega (arith, f.0), grind (arith, nat_tests, f.0, f.1), λ d l n. same d (omega (arith, f.0)) ∙ grind (arith, nat_tests, f.2 d l n))
 
 pub lowest_first : (k m : ℕ) (t u : ℕ → Bool) → m ≤ k → ((d : ℕ) → d < k → t d ≡ (ltb d m && u d)) → lowest_below k t ≡ lowest_below m u
 unfolding lowest_below
