@@ -1,9 +1,9 @@
 -- Looking for a row, and counting distinct rows, line by line.
-use Rattle.std.proofs.Common.{◌≡◌, ℕ, ◌+◌, ◌<◌, Bool, true, false, cond, not, ◌&&◌, ◌||◌, List, [], ◌∷◌, map, length, sym, refl, ap, ◌∙◌, arith}
+use Rattle.std.proofs.Common.{◌≡◌, ℕ, ◌+◌, Bool, cond, not, ◌&&◌, List, [], ◌∷◌, map, refl, arith}
 use Rattle.std.specs.List.{list_any}
 use Rattle.book.specs.declared.row.Row.{Row}
 use Rattle.book.specs.Lines.{Fact}
-use Rattle.book.specs.Tables.{stands, rows, has, distinct, row_count}
+use Rattle.book.specs.Tables.{stands, rows, has, row_count}
 
 -- a row of the table passes a test where a line that stands in it has such a row
 module _ {X : Type 0} (v : X → Fact) (table choice : ℕ) (p : Row → Bool) where

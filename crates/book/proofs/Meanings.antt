@@ -1,5 +1,5 @@
 -- Each write does to the tables, under every choice, what plain tables would do if its transaction commits.
-use Rattle.std.proofs.Common.{◌≡◌, ℕ, ◌+◌, ◌<◌, ◌≤◌, Bool, true, false, cond, not, ◌&&◌, eqb, List, [], ◌∷◌, ◌++◌, map, length, is_some, Some, filter, sym, refl, ap, ◌∙◌, arith}
+use Rattle.std.proofs.Common.{◌≡◌, ℕ, ◌+◌, ◌<◌, ◌≤◌, Bool, true, false, cond, not, eqb, List, [], ◌∷◌, ◌++◌, map, length, is_some, filter, sym, refl, ap, ◌∙◌, arith}
 use Rattle.std.specs.List.{flat_map, list_any}
 use Rattle.std.specs.List.Sorted.{IsPermutation}
 use Rattle.std.proofs.lemmas.List.{map-append, map-id}
@@ -11,7 +11,7 @@ use Rattle.conditions.specs.Choices.{positions, bit}
 use Rattle.book.specs.declared.row.Row.{Row}
 use Rattle.book.specs.Lines.{Fact, decided_line}
 use Rattle.book.specs.Numbers.{place_from, place}
-use Rattle.book.specs.Tables.{stands, same_row, rows, has}
+use Rattle.book.specs.Tables.{same_row, rows, has}
 use Rattle.book.specs.Writes.{Rewrite, deleted_line, plainly_updated, updated_lines}
 use Rattle.book.specs.Calls.{State, position, or_zero, with_lines, lines_inserted}
 use Rattle.book.specs.Plain.{row_added, rows_removed, rows_changed, tables, Writes, Decides}

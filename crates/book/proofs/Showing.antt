@@ -1,7 +1,7 @@
 -- What the tables show under a choice after a call, as plain tables would have it.
 use Rattle.std.proofs.Common.{◌≡◌, ℕ, ◌^◌, ◌<◌, Bool, true, false, cond, not, ◌&&◌, eqb, List, [], ◌∷◌, ◌++◌, map, filter, sym, refl, ap, ◌∙◌, arith}
 use Rattle.std.specs.List.{flat_map}
-use Rattle.std.proofs.lemmas.List.{append_assoc, append-nil}
+use Rattle.std.proofs.lemmas.List.{append-nil}
 use Rattle.std.proofs.lemmas.Bool.{lt-ltb}
 use Rattle.std.proofs.lemmas.Bool.Decides.{nat_tests}
 use Rattle.conditions.specs.Choices.{positions, bit, same, source}
@@ -9,8 +9,8 @@ use Rattle.conditions.specs.Meanings.{everywhere, narrowing, deciding}
 use Rattle.conditions.proofs.Meaning.{nowhere_decides}
 use Rattle.book.specs.declared.row.Row.{Row}
 use Rattle.book.specs.Lines.{Fact, impossible, kept, inserted_line, decided_line}
-use Rattle.book.specs.Tables.{stands, rows}
-use Rattle.book.specs.Writes.{Rewrite, touched, ending, deleted_line, rewritten, original, copy, plainly_updated}
+use Rattle.book.specs.Tables.{rows}
+use Rattle.book.specs.Writes.{Rewrite, touched, ending, deleted_line, original, copy, plainly_updated}
 
 module _ (t c : ℕ) where
   -- what one line shows
@@ -20,14 +20,14 @@ module _ (t c : ℕ) where
   rows_more : (f : Fact) (fs : List Fact) → rows t c (f ∷ fs) ≡ shows f ++ rows t c fs
   rows_more f fs = grind arith
 
-  pub rows_append : (fs gs : List Fact) → rows t c (fs ++ gs) ≡ rows t c fs ++ rows t c gs
+  rows_append : (fs gs : List Fact) → rows t c (fs ++ gs) ≡ rows t c fs ++ rows t c gs
   rows_append [] gs = refl
   rows_append (f ∷ fs) gs =
       let rest = rows_append fs gs in
       grind arith
 
   -- a line that is impossible shows nothing
-  pub kept_shows : c < 2 ^ positions → (f : Fact) → rows t c (kept f) ≡ shows f
+  kept_shows : c < 2 ^ positions → (f : Fact) → rows t c (kept f) ≡ shows f
   kept_shows l f = go (impossible f) refl
     where
       go : (b : Bool) → impossible f ≡ b → rows t c (cond b [] (f ∷ [])) ≡ shows f

@@ -1,8 +1,5 @@
 use Rattle.std.proofs.Common.{not, ◌&&◌, sym, ap, ◌∙◌, arith}
-use Rattle.std.proofs.Math.Bool.{and-true}
-use Rattle.std.proofs.lemmas.List.{nil_from_length}
 use Rattle.conditions.specs.Choices.{bit}
-use Rattle.conditions.proofs.Bits.{bit_zero}
 use Rattle.book.proofs.Voting.{cued, cue_then, cue_else}
 use Rattle.book.proofs.vote.uncued.Goals as goal
 
