@@ -2,6 +2,7 @@
 use Rattle.std.proofs.Common.{w64, ◌≡◌, ℕ, ◌+◌, ◌-◌, ◌^◌, ◌<◌, ◌≤◌, Bool, true, false, not, ◌&&◌, ◌||◌, eqb, ltb, List, [], ◌∷◌, ◌++◌, map, length, get_or, take, Some, None, Option, inl, inr, sym, ap, ◌∙◌, arith}
 use lib.Bits.{bit_and, bit_or}
 use Rattle.std.specs.Int.{trailing_zeros}
+use Rattle.std.specs.List.{find, range_with_len}
 use Rattle.std.proofs.lemmas.Nat.Bits.{bit_at-trailing_zeros}
 use Rattle.std.proofs.lemmas.List.Folds.{list_any-append, list_any_more}
 use Rattle.std.proofs.lemmas.Bool.{cases_lt}
@@ -12,7 +13,7 @@ use Rattle.book.specs.declared.row.Row.{Row}
 use Rattle.book.specs.declared.line.Line.{Line}
 use Rattle.book.specs.Lines.{seen}
 use Rattle.book.specs.Tables.{rows}
-use Rattle.book.specs.Votes.{has_cue, orphan, some_orphan, lowest_from, lowest_below}
+use Rattle.book.specs.Votes.{has_cue, orphan, some_orphan, lowest_below}
 use Rattle.book.proofs.Counting.{stands_passing, any_row}
 use Rattle.book.proofs.Lowest.{Finds, finds, lowest_is}
 
@@ -92,4 +93,4 @@ widened k m t u h same (Some e) f =
 
 pub lowest_first : (k m : ℕ) (t u : ℕ → Bool) → m ≤ k → ((d : ℕ) → d < k → t d ≡ (ltb d m && u d)) → lowest_below k t ≡ lowest_below m u
 unfolding lowest_below
-lowest_first k m t u h same = lowest_is k t (lowest_below m u) (widened k m t u h same (lowest_from 0 m u) (finds 0 m u))
+lowest_first k m t u h same = lowest_is k t (lowest_below m u) (widened k m t u h same (find u (range_with_len 0 m)) (finds 0 m u))
