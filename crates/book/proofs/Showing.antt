@@ -1,7 +1,8 @@
 -- What the tables show under a choice after a call, as plain tables would have it.
 use Rattle.std.proofs.Common.{◌≡◌, ℕ, ◌^◌, ◌<◌, Bool, true, false, cond, not, ◌&&◌, eqb, List, [], ◌∷◌, ◌++◌, map, filter, sym, refl, ap, ◌∙◌, arith}
 use Rattle.std.specs.List.{flat_map}
-use Rattle.std.proofs.lemmas.List.{append-nil}
+use Rattle.std.proofs.lemmas.List.{append-nil, map-append}
+use Rattle.std.proofs.lemmas.List.Elements.{filter-append}
 use Rattle.std.proofs.lemmas.Bool.{lt-ltb}
 use Rattle.std.proofs.lemmas.Bool.Decides.{nat_tests}
 use Rattle.conditions.specs.Choices.{positions, bit, same, source}
@@ -9,7 +10,7 @@ use Rattle.conditions.specs.Meanings.{everywhere, narrowing, deciding}
 use Rattle.conditions.proofs.Meaning.{nowhere_decides}
 use Rattle.book.specs.declared.row.Row.{Row}
 use Rattle.book.specs.Lines.{Fact, impossible, kept, inserted_line, decided_line}
-use Rattle.book.specs.Tables.{rows}
+use Rattle.book.specs.Tables.{stands, rows}
 use Rattle.book.specs.Writes.{Rewrite, touched, ending, deleted_line, original, copy, plainly_updated}
 
 module _ (t c : ℕ) where
@@ -17,14 +18,8 @@ module _ (t c : ℕ) where
   abbrev shows : Fact → List Row
   shows f = rows t c (f ∷ [])
 
-  rows_more : (f : Fact) (fs : List Fact) → rows t c (f ∷ fs) ≡ shows f ++ rows t c fs
-  rows_more f fs = grind arith
-
   rows_append : (fs gs : List Fact) → rows t c (fs ++ gs) ≡ rows t c fs ++ rows t c gs
-  rows_append [] gs = refl
-  rows_append (f ∷ fs) gs =
-      let rest = rows_append fs gs in
-      grind arith
+  rows_append fs gs = ap (map (λ f. f.row)) (filter-append (stands t c) fs gs) ∙ map-append (λ f. f.row) (filter (stands t c) fs) (filter (stands t c) gs)
 
   -- a line that is impossible shows nothing
   kept_shows : c < 2 ^ positions → (f : Fact) → rows t c (kept f) ≡ shows f
@@ -41,7 +36,7 @@ module _ (t c d : ℕ) (w : List Row → List Row) (none : w [] ≡ []) (more : 
   each_shows [] = sym none
   each_shows (f ∷ fs) =
       rows_append t c (h f) (flat_map h fs) ∙ (λ k. one f k ++ each_shows fs k)
-      ∙ sym (more (rows t d (f ∷ [])) (rows t d fs)) ∙ ap w (sym (rows_more t d f fs))
+      ∙ sym (more (rows t d (f ∷ [])) (rows t d fs)) ∙ ap w (sym (rows_append t d (f ∷ []) fs))
 
 -- a transaction at position i, and a choice c
 module _ (i : ℕ) (at : i < positions) (c : ℕ) (among : c < 2 ^ positions) (t : ℕ) where

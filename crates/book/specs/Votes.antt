@@ -1,5 +1,5 @@
 -- Votes: whether a transaction can commit and leave no shot without its cue.
-use Rattle.std.specs.Prelude.{◌≡◌, ℕ, zero, suc, ◌+◌, ◌<◌, Bool, true, false, cond, not, List, Some, None, Option, ◌==◌}
+use Rattle.std.specs.Prelude.{◌≡◌, ℕ, ◌<◌, Bool, true, false, not, List, Some, None, Option, ◌==◌}
 use Rattle.std.specs.List.{find, list_any, range_with_len}
 use Rattle.book.specs.declared.row.Row.{Row}
 use Rattle.book.specs.declared.vote.Vote.{Vote}

@@ -7,6 +7,7 @@ use crate::row::Row;
 use conditions::Condition;
 
 // Whether the line is of the table, and holds under the choice.
+// Table and choice go along as two numbers: a type for the pair would be one more name, and no plainer.
 fn stands_in<C: Condition>(line: &Line<C>, table: u8, choice: u8) -> bool
     ensures { result ≡ stands table choice (seen C.Condition.meaning line.now) }
 {
