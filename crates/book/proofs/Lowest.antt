@@ -42,7 +42,7 @@ module _ (k : ℕ) (test : ℕ → Bool) where
 
 says_of : (n : ℕ) (test : ℕ → Bool) (o : Option ℕ) → Finds 0 n test o → Says (vote_on o) n test
 says_of n test None h = λ c l. h c (omega arith) (omega arith)
-says_of n test (Some e) h = (omega (arith, h.0), h.1, λ d l. h.2 d (omega arith) l)
+says_of n test (Some e) h = (omega (arith, h.0), h.1, λ d. h.2 d (omega arith))
 
 pub vote_says : (n : ℕ) (test : ℕ → Bool) → Says (vote_on (lowest_below n test)) n test
 unfolding lowest_below
