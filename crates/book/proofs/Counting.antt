@@ -1,9 +1,9 @@
 -- Looking for a row, and counting distinct rows, line by line.
-use Rattle.std.proofs.Common.{◌≡◌, ℕ, ◌+◌, ◌<◌, Bool, true, false, cond, not, ◌&&◌, ◌||◌, List, [], ◌∷◌, map, length, sym, refl, ap, ◌∙◌, arith}
+use Rattle.std.proofs.Common.{◌≡◌, ℕ, ◌+◌, Bool, cond, not, ◌&&◌, List, [], ◌∷◌, map, refl, arith}
 use Rattle.std.specs.List.{list_any}
 use Rattle.book.specs.declared.row.Row.{Row}
 use Rattle.book.specs.Lines.{Fact}
-use Rattle.book.specs.Tables.{stands, rows, has, distinct, row_count}
+use Rattle.book.specs.Tables.{stands, rows, has, row_count}
 
 -- a row of the table passes a test where a line that stands in it has such a row
 module _ {X : Type 0} (v : X → Fact) (table choice : ℕ) (p : Row → Bool) where
@@ -14,10 +14,7 @@ module _ {X : Type 0} (v : X → Fact) (table choice : ℕ) (p : Row → Bool) w
   any_row [] = refl
   any_row (x ∷ xs) =
       let rest = any_row xs in
-      elim (stands table choice (v x)) as (λ s. list_any p (cond s ((v x).row ∷ rows table choice (map v xs)) (rows table choice (map v xs))) ≡ ((s && p (v x).row) || list_any stands_passing xs)) [
-        | true ↦ ap (λ b. p (v x).row || b) rest
-        | false ↦ rest
-      ]
+      grind arith
 
 -- one line more: it counts where no line behind it shows its row
 pub count_more : {X : Type 0} (v : X → Fact) (table choice : ℕ) (x : X) (xs ys : List X) (b : Bool) → ys ≡ x ∷ xs

@@ -1,7 +1,8 @@
 -- The lowest number that passes a test passes it, and no lower one does; and no other number is so.
 use Rattle.std.proofs.Common.{◌≡◌, ℕ, zero, suc, ◌+◌, ◌<◌, ◌≤◌, Bool, true, false, cond, Some, None, Option, refl, ap, inl, inr, arith}
 use Rattle.std.proofs.lemmas.Bool.{both_ways, cases_eq, cases_lt}
-use Rattle.book.specs.Votes.{lowest_from, lowest_below, vote_on, Says}
+use Rattle.std.specs.List.{find, range_with_len}
+use Rattle.book.specs.Votes.{lowest_below, vote_on, Says}
 
 -- of k numbers from c on: the outcome o is the lowest that passes, or none does
 abbrev pub Finds : ℕ → ℕ → (ℕ → Bool) → Option ℕ → Type 0
@@ -15,13 +16,13 @@ one_more : (c k : ℕ) (test : ℕ → Bool) (o : Option ℕ) → test c ≡ fal
 one_more c k test None e h = λ d l m. later c d test e l (λ n. h d (omega arith) (omega arith))
 one_more c k test (Some x) e h = (omega (arith, h.0), h.1, λ d l m. later c d test e l (λ n. h.2 d (omega arith) m))
 
-pub finds : (c k : ℕ) (test : ℕ → Bool) → Finds c k test (lowest_from c k test)
+pub finds : (c k : ℕ) (test : ℕ → Bool) → Finds c k test (find test (range_with_len c k))
 finds c zero test = λ d l m. absurd (omega arith)
 finds c (suc k) test = go (test c) refl (finds (c + 1) k test)
   where
-    go : (b : Bool) → test c ≡ b → Finds (c + 1) k test (lowest_from (c + 1) k test) → Finds c (suc k) test (cond b (Some c) (lowest_from (c + 1) k test))
+    go : (b : Bool) → test c ≡ b → Finds (c + 1) k test (find test (range_with_len (c + 1) k)) → Finds c (suc k) test (cond b (Some c) (find test (range_with_len (c + 1) k)))
     go true e h = (omega arith, e, λ d l m. absurd (omega arith))
-    go false e h = one_more c k test (lowest_from (c + 1) k test) e h
+    go false e h = one_more c k test (find test (range_with_len (c + 1) k)) e h
 
 -- the outcome is the only one
 module _ (k : ℕ) (test : ℕ → Bool) where
@@ -37,12 +38,12 @@ module _ (k : ℕ) (test : ℕ → Bool) where
 
   pub lowest_is : (o : Option ℕ) → Finds 0 k test o → lowest_below k test ≡ o
   unfolding lowest_below
-  lowest_is o = alike (lowest_from 0 k test) o (finds 0 k test)
+  lowest_is o = alike (find test (range_with_len 0 k)) o (finds 0 k test)
 
 says_of : (n : ℕ) (test : ℕ → Bool) (o : Option ℕ) → Finds 0 n test o → Says (vote_on o) n test
 says_of n test None h = λ c l. h c (omega arith) (omega arith)
-says_of n test (Some e) h = (omega (arith, h.0), h.1, λ d l. h.2 d (omega arith) l)
+says_of n test (Some e) h = (omega (arith, h.0), h.1, λ d. h.2 d (omega arith))
 
 pub vote_says : (n : ℕ) (test : ℕ → Bool) → Says (vote_on (lowest_below n test)) n test
 unfolding lowest_below
-vote_says n test = says_of n test (lowest_from 0 n test) (finds 0 n test)
+vote_says n test = says_of n test (find test (range_with_len 0 n)) (finds 0 n test)

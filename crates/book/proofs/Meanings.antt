@@ -1,5 +1,5 @@
 -- Each write does to the tables, under every choice, what plain tables would do if its transaction commits.
-use Rattle.std.proofs.Common.{◌≡◌, ℕ, ◌<◌, Bool, true, false, cond, not, ◌&&◌, eqb, List, [], ◌∷◌, ◌++◌, map, filter, sym, refl, ap, ◌∙◌}
+use Rattle.std.proofs.Common.{◌≡◌, ℕ, ◌<◌, Bool, true, false, cond, not, eqb, List, [], ◌∷◌, ◌++◌, map, filter, sym, refl, ap, ◌∙◌, arith}
 use Rattle.std.specs.List.{flat_map, list_any}
 use Rattle.std.specs.List.Sorted.{IsPermutation}
 use Rattle.std.proofs.lemmas.List.{map-append, map-id}
@@ -8,7 +8,7 @@ use Rattle.std.proofs.lemmas.List.Sorted.{list_any-IsPermutation}
 use Rattle.conditions.specs.Choices.{positions, bit}
 use Rattle.book.specs.declared.row.Row.{Row}
 use Rattle.book.specs.Lines.{Fact, decided_line}
-use Rattle.book.specs.Tables.{stands, same_row, rows, has}
+use Rattle.book.specs.Tables.{same_row, rows, has}
 use Rattle.book.specs.Writes.{Rewrite, deleted_line, plainly_updated, updated_lines}
 use Rattle.book.specs.Calls.{State, position, with_lines, lines_inserted}
 use Rattle.book.specs.Plain.{row_added, rows_removed, rows_changed, tables, Writes, Decides}
@@ -28,8 +28,7 @@ module _ (t c : ℕ) (r : Row) where
   shuffled_has fs gs h = by_line fs ∙ list_any-IsPermutation shows_row fs gs h ∙ sym (by_line gs)
 
 at_table : {A B : Type 0} (b : Bool) (f g : A → B) (t : A) → cond b (f t) (g t) ≡ cond b f g t
-at_table true f g t = refl
-at_table false f g t = refl
+at_table b f g t = grind arith
 
 -- what a write does to the rows of a table, in parts
 module _ (b e : Bool) where

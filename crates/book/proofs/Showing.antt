@@ -1,7 +1,8 @@
 -- What the tables show under a choice after a call, as plain tables would have it.
 use Rattle.std.proofs.Common.{◌≡◌, ℕ, ◌^◌, ◌<◌, Bool, true, false, cond, not, ◌&&◌, eqb, List, [], ◌∷◌, ◌++◌, map, filter, sym, refl, ap, ◌∙◌, arith}
 use Rattle.std.specs.List.{flat_map}
-use Rattle.std.proofs.lemmas.List.{append_assoc, append-nil}
+use Rattle.std.proofs.lemmas.List.{append-nil, map-append}
+use Rattle.std.proofs.lemmas.List.Elements.{filter-append}
 use Rattle.std.proofs.lemmas.Bool.{lt-ltb}
 use Rattle.std.proofs.lemmas.Bool.Decides.{nat_tests}
 use Rattle.conditions.specs.Choices.{positions, bit, same, source}
@@ -10,24 +11,18 @@ use Rattle.conditions.proofs.Meaning.{nowhere_decides}
 use Rattle.book.specs.declared.row.Row.{Row}
 use Rattle.book.specs.Lines.{Fact, impossible, kept, inserted_line, decided_line, ending}
 use Rattle.book.specs.Tables.{stands, rows}
-use Rattle.book.specs.Writes.{Rewrite, touched, deleted_line, rewritten, original, copy, plainly_updated}
+use Rattle.book.specs.Writes.{Rewrite, touched, deleted_line, original, copy, plainly_updated}
 
 module _ (t c : ℕ) where
   -- what one line shows
   abbrev shows : Fact → List Row
   shows f = rows t c (f ∷ [])
 
-  rows_more : (f : Fact) (fs : List Fact) → rows t c (f ∷ fs) ≡ shows f ++ rows t c fs
-  rows_more f fs = elim (stands t c f) as (λ b. cond b (f.row ∷ rows t c fs) (rows t c fs) ≡ cond b (f.row ∷ []) [] ++ rows t c fs) [ true ↦ refl | false ↦ refl ]
-
-  pub rows_append : (fs gs : List Fact) → rows t c (fs ++ gs) ≡ rows t c fs ++ rows t c gs
-  rows_append [] gs = refl
-  rows_append (f ∷ fs) gs =
-      rows_more f (fs ++ gs) ∙ ap (λ rs. shows f ++ rs) (rows_append fs gs)
-      ∙ sym (append_assoc (shows f) (rows t c fs) (rows t c gs)) ∙ ap (λ rs. rs ++ rows t c gs) (sym (rows_more f fs))
+  rows_append : (fs gs : List Fact) → rows t c (fs ++ gs) ≡ rows t c fs ++ rows t c gs
+  rows_append fs gs = ap (map (λ f. f.row)) (filter-append (stands t c) fs gs) ∙ map-append (λ f. f.row) (filter (stands t c) fs) (filter (stands t c) gs)
 
   -- a line that is impossible shows nothing
-  pub kept_shows : c < 2 ^ positions → (f : Fact) → rows t c (kept f) ≡ shows f
+  kept_shows : c < 2 ^ positions → (f : Fact) → rows t c (kept f) ≡ shows f
   kept_shows l f = go (impossible f) refl
     where
       go : (b : Bool) → impossible f ≡ b → rows t c (cond b [] (f ∷ [])) ≡ shows f
@@ -41,20 +36,7 @@ module _ (t c d : ℕ) (w : List Row → List Row) (none : w [] ≡ []) (more : 
   each_shows [] = sym none
   each_shows (f ∷ fs) =
       rows_append t c (h f) (flat_map h fs) ∙ (λ k. one f k ++ each_shows fs k)
-      ∙ sym (more (rows t d (f ∷ [])) (rows t d fs)) ∙ ap w (sym (rows_more t d f fs))
-
--- what a row at most becomes
-
-one_kept : (q : Row → Bool) (s : Bool) (x : Row) → filter q (cond s (x ∷ []) []) ≡ cond (s && q x) (x ∷ []) []
-one_kept q true x = refl
-one_kept q false x = refl
-
-one_mapped : (g : Row → Row) (s : Bool) (x : Row) → map g (cond s (x ∷ []) []) ≡ cond s (g x ∷ []) []
-one_mapped g true x = refl
-one_mapped g false x = refl
-
-same_table : (a b t : ℕ) → eqb a t ≡ true → eqb a b ≡ eqb b t
-same_table a b t e = grind (arith, nat_tests)
+      ∙ sym (more (rows t d (f ∷ [])) (rows t d fs)) ∙ ap w (sym (rows_append t d (f ∷ []) fs))
 
 -- a transaction at position i, and a choice c
 module _ (i : ℕ) (at : i < positions) (c : ℕ) (among : c < 2 ^ positions) (t : ℕ) where
@@ -66,45 +48,32 @@ module _ (i : ℕ) (at : i < positions) (c : ℕ) (among : c < 2 ^ positions) (t
   pub insert_shows : (table : ℕ) (r : Row) (fs : List Fact)
       → rows t c (fs ++ inserted_line i table r ∷ []) ≡ cond (bit i c) (cond (eqb table t) (rows t c fs ++ r ∷ []) (rows t c fs)) (rows t c fs)
   insert_shows table r fs =
-      rows_append t c fs (inserted_line i table r ∷ [])
-      ∙ go (rows t c fs) (eqb table t) (bit i c) _ (narrowed_at true (everywhere positions) ∙ ap (λ b. b && bit i c) (lt-ltb c (2 ^ positions) among))
-    where
-      go : (rs : List Row) (e b m : Bool) → m ≡ b → rs ++ cond (e && m) (r ∷ []) [] ≡ cond b (cond e (rs ++ r ∷ []) rs) rs
-      go rs e b m h = let n = append-nil rs in grind (arith, nat_tests)
+      let m = narrowed_at true (everywhere positions) in
+      let l = lt-ltb c (2 ^ positions) among in
+      let n = append-nil (rows t c fs) in
+      rows_append t c fs (inserted_line i table r ∷ []) ∙ grind (arith, nat_tests)
 
   -- Delete
   pub delete_one : (table : ℕ) (p : Row → Bool) (f : Fact)
       → rows t c (deleted_line i table p f) ≡ cond (bit i c) (cond (eqb table t) (filter (λ r. not (p r)) (rows t c (f ∷ []))) (rows t c (f ∷ []))) (rows t c (f ∷ []))
   delete_one table p f =
-      let k = one_kept (λ r. not (p r)) (stands t c f) f.row in
       let n = narrowed_at false f.meaning in
-      let s = same_table f.table table t in
       kept_shows t c among (cond (touched table p f) (ending i false f) f) ∙ grind (arith, nat_tests)
 
   -- Decide
   pub decide_one : (s : Bool) (f : Fact) → rows t c (decided_line i s f) ≡ rows t (source positions i s c) (f ∷ [])
   unfolding deciding
   decide_one s f =
-      let a = lt-ltb i positions at in
-      let l = lt-ltb c (2 ^ positions) among in
       kept_shows t c among (record { table = f.table; row = f.row; meaning = deciding positions i s f.meaning }) ∙ grind (arith, nat_tests)
 
   -- Update
   pub update_one : (u : Rewrite) → u.position ≡ i → (f : Fact)
       → rows t c (plainly_updated u f) ≡ cond (bit i c) (cond (eqb u.table t) (map (λ r. cond (u.passing r) (u.changing r) r) (rows t c (f ∷ []))) (rows t c (f ∷ []))) (rows t c (f ∷ []))
-  update_one u e f = go (rewritten u f) refl
-    where
-      go : (b : Bool) → rewritten u f ≡ b
-          → rows t c (cond b (kept (original u f) ++ kept (copy u f)) (kept f)) ≡ cond (bit i c) (cond (eqb u.table t) (map (λ r. cond (u.passing r) (u.changing r) r) (rows t c (f ∷ []))) (rows t c (f ∷ []))) (rows t c (f ∷ []))
-      go true h =
-          let k = one_mapped (λ r. cond (u.passing r) (u.changing r) r) (stands t c f) f.row in
-          let a : narrowing positions u.position false f.meaning c ≡ (f.meaning c && not (bit i c)) = rw e (narrowed_at false f.meaning) in
-          let b : narrowing positions u.position true f.meaning c ≡ (f.meaning c && bit i c) = rw e (narrowed_at true f.meaning) in
-          let s = same_table f.table u.table t in
-          rows_append t c (kept (original u f)) (kept (copy u f))
-          ∙ (λ k. kept_shows t c among (original u f) k ++ kept_shows t c among (copy u f) k)
-          ∙ grind (arith, nat_tests)
-      go false h =
-          let k = one_mapped (λ r. cond (u.passing r) (u.changing r) r) (stands t c f) f.row in
-          let s = same_table f.table u.table t in
-          kept_shows t c among f ∙ grind (arith, nat_tests)
+  update_one u e f =
+      let a : narrowing positions u.position false f.meaning c ≡ (f.meaning c && not (bit i c)) = rw e (narrowed_at false f.meaning) in
+      let b : narrowing positions u.position true f.meaning c ≡ (f.meaning c && bit i c) = rw e (narrowed_at true f.meaning) in
+      let o = kept_shows t c among (original u f) in
+      let p = kept_shows t c among (copy u f) in
+      let q = kept_shows t c among f in
+      let r = rows_append t c (kept (original u f)) (kept (copy u f)) in
+      grind (arith, nat_tests)

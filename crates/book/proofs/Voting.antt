@@ -1,10 +1,9 @@
 -- The choices that speak against a transaction, all at once.
-use Rattle.std.proofs.Common.{w64, ◌≡◌, ℕ, zero, suc, ◌+◌, ◌-◌, ◌/◌, ◌%◌, ◌^◌, ◌<◌, ◌≤◌, Bool, true, false, cond, not, ◌&&◌, ◌||◌, eqb, ltb, List, [], ◌∷◌, ◌++◌, map, length, get_or, take, drop, Some, None, Option, inl, inr, sym, refl, ap, ◌∙◌, arith}
+use Rattle.std.proofs.Common.{w64, ◌≡◌, ℕ, ◌+◌, ◌-◌, ◌^◌, ◌<◌, ◌≤◌, Bool, true, false, not, ◌&&◌, ◌||◌, eqb, ltb, List, [], ◌∷◌, ◌++◌, map, length, get_or, take, Some, None, Option, inl, inr, sym, ap, ◌∙◌, arith}
 use lib.Bits.{bit_and, bit_or}
 use Rattle.std.specs.Int.{trailing_zeros}
+use Rattle.std.specs.List.{find, range_with_len}
 use Rattle.std.proofs.lemmas.Nat.Bits.{bit_at-trailing_zeros}
-use Rattle.std.specs.List.{list_any}
-use Rattle.std.proofs.Math.Bool.{or-false}
 use Rattle.std.proofs.lemmas.List.Folds.{list_any-append, list_any_more}
 use Rattle.std.proofs.lemmas.Bool.{cases_lt}
 use Rattle.std.proofs.lemmas.Bool.Decides.{nat_tests}
@@ -14,7 +13,7 @@ use Rattle.book.specs.declared.row.Row.{Row}
 use Rattle.book.specs.declared.line.Line.{Line}
 use Rattle.book.specs.Lines.{seen}
 use Rattle.book.specs.Tables.{rows}
-use Rattle.book.specs.Votes.{has_cue, orphan, some_orphan, lowest_from, lowest_below}
+use Rattle.book.specs.Votes.{has_cue, orphan, some_orphan, lowest_below}
 use Rattle.book.proofs.Counting.{stands_passing, any_row}
 use Rattle.book.proofs.Lowest.{Finds, finds, lowest_is}
 
@@ -34,17 +33,14 @@ module _ {C : Type 0} (m : C → ℕ → Bool) (c : ℕ) where
 
     cued_push : (ls : List (Line C)) (l : Line C) → cued (ls ++ l ∷ []) ≡ (cued ls || is_cue l)
     cued_push ls l =
-        cued_append ls (l ∷ []) ∙ ap (λ b. cued ls || b) (any_row (seen m) 2 c (λ r. eqb r.first cue) (l ∷ []) ∙ or-false (is_cue l))
+        cued_append ls (l ∷ []) ∙ ap (λ b. cued ls || b) (grind arith)
 
     -- one line more, from the last back: v has the choices so far, and w those in which the line holds
     module _ (v : ℕ) (ls : List (Line C)) (l : Line C) where
       pub cue_then : (w : ℕ) → w < 2 ^ 64 → c < 64 → true ≡ (eqb l.table 2 && eqb l.row.first cue) → bit c w ≡ m l.condition c
           → (bit c (bit_and v (2 ^ 64 - 1 - w)) && not (cued ls)) ≡ (bit c v && not (cued (ls ++ l ∷ [])))
       cue_then w small among is holds =
-          let a = bit_of_and c v (2 ^ 64 - 1 - w) in
-          let n = bit_not 64 c w small among in
-          let p = cued_push ls l in
-          grind (arith, nat_tests)
+          grind (arith, nat_tests, bit_of_and c v (2 ^ 64 - 1 - w), bit_not 64 c w small among, cued_push ls l)
 
       pub cue_else : false ≡ (eqb l.table 2 && eqb l.row.first cue) → (bit c v && not (cued ls)) ≡ (bit c v && not (cued (ls ++ l ∷ [])))
       cue_else is = let p = cued_push ls l in grind (arith, nat_tests)
@@ -57,14 +53,11 @@ module _ {C : Type 0} (m : C → ℕ → Bool) (c : ℕ) where
     abbrev is_orphan : Line C → Bool
     is_orphan = stands_passing (seen m) 1 c (λ r. orphan r cues)
 
-    lacking_more : (ls : List (Line C)) (i : ℕ) (l : Line C) → i < length ls → lacking (take (i + 1) ls) ≡ (lacking (take i ls) || is_orphan (get_or ls i l))
-    lacking_more ls i l h =
-        let by_line = any_row (seen m) 1 c (λ r. orphan r cues) in
-        by_line (take (i + 1) ls) ∙ list_any_more is_orphan ls i l h ∙ ap (λ b. b || is_orphan (get_or ls i l)) (sym (by_line (take i ls)))
-
     module _ (a v i : ℕ) (ls : List (Line C)) (l : Line C) (within : i < length ls) (at : l ≡ get_or ls i l) (before : bit c v ≡ (bit c a && lacking (take i ls))) where
       more : lacking (take (i + 1) ls) ≡ (lacking (take i ls) || is_orphan l)
-      more = lacking_more ls i l within ∙ ap (λ x. lacking (take i ls) || is_orphan x) (sym at)
+      more =
+          let by_line = any_row (seen m) 1 c (λ r. orphan r cues) in
+          by_line (take (i + 1) ls) ∙ list_any_more is_orphan ls i l within ∙ (λ k. sym (by_line (take i ls)) k || is_orphan (sym at k))
 
       pub orphan_then : (w q : ℕ) → v < 2 ^ 64 → c < 64 → l.table ≡ 1 → bit c w ≡ m l.condition c
           → bit c q ≡ (bit c (bit_and (bit_and a (2 ^ 64 - 1 - v)) w) && not (has_cue l.row.first cues))
@@ -93,11 +86,11 @@ first_set x h l =
 -- of the first m alone
 widened : (k m : ℕ) (t u : ℕ → Bool) → m ≤ k → ((d : ℕ) → d < k → t d ≡ (ltb d m && u d)) → (o : Option ℕ) → Finds 0 m u o → Finds 0 k t o
 widened k m t u h same None f = λ d l n.
-    same d (omega arith) ∙ elim (cases_lt d m) [ inl p ↦ let q = f d l (omega arith) in grind (arith, nat_tests) | inr p ↦ grind (arith, nat_tests) ]
+    same d (omega arith) ∙ elim (cases_lt d m) [ inl p ↦ grind (arith, nat_tests, f d l (omega arith)) | inr p ↦ grind (arith, nat_tests) ]
 widened k m t u h same (Some e) f =
     let s = same e (omega (arith, f.0)) in
-    (omega (arith, f.0), grind (arith, nat_tests, f.0, f.1), λ d l n. same d (omega (arith, f.0)) ∙ (let q = f.2 d l n in grind (arith, nat_tests)))
+    (omega (arith, f.0), grind (arith, nat_tests, f.0, f.1), λ d l n. same d (omega (arith, f.0)) ∙ grind (arith, nat_tests, f.2 d l n))
 
 pub lowest_first : (k m : ℕ) (t u : ℕ → Bool) → m ≤ k → ((d : ℕ) → d < k → t d ≡ (ltb d m && u d)) → lowest_below k t ≡ lowest_below m u
 unfolding lowest_below
-lowest_first k m t u h same = lowest_is k t (lowest_below m u) (widened k m t u h same (lowest_from 0 m u) (finds 0 m u))
+lowest_first k m t u h same = lowest_is k t (lowest_below m u) (widened k m t u h same (find u (range_with_len 0 m)) (finds 0 m u))

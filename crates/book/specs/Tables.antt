@@ -1,5 +1,5 @@
 -- Tables under a choice.
-use Rattle.std.specs.Prelude.{ℕ, Bool, cond, ◌&&◌, List, [], ◌∷◌, length, ◌==◌}
+use Rattle.std.specs.Prelude.{ℕ, Bool, cond, ◌&&◌, List, [], ◌∷◌, map, filter, length, ◌==◌}
 use Rattle.std.specs.List.{list_any}
 use Rattle.book.specs.declared.row.Row.{Row}
 use Rattle.book.specs.Lines.{Fact}
@@ -13,8 +13,7 @@ stands table choice f = f.table == table && f.meaning choice
 
 -- the rows of a table under a choice, one for each line
 abbrev pub rows : ℕ → ℕ → List Fact → List Row
-rows table choice [] = []
-rows table choice (f ∷ fs) = cond (stands table choice f) (f.row ∷ rows table choice fs) (rows table choice fs)
+rows table choice fs = map (λ f. f.row) (filter (stands table choice) fs)
 
 abbrev pub has : Row → List Row → Bool
 has r rs = list_any (λ x. same_row x r) rs

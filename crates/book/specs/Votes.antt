@@ -1,6 +1,6 @@
 -- Votes: whether a transaction can commit and leave no shot without its cue.
-use Rattle.std.specs.Prelude.{◌≡◌, ℕ, zero, suc, ◌+◌, ◌<◌, Bool, true, false, cond, not, List, Some, None, Option, ◌==◌}
-use Rattle.std.specs.List.{list_any}
+use Rattle.std.specs.Prelude.{◌≡◌, ℕ, ◌<◌, Bool, true, false, not, List, Some, None, Option, ◌==◌}
+use Rattle.std.specs.List.{find, list_any, range_with_len}
 use Rattle.book.specs.declared.row.Row.{Row}
 use Rattle.book.specs.declared.vote.Vote.{Vote}
 use Rattle.book.specs.declared.vote.Vote.TheVariants.{Yes, No}
@@ -22,14 +22,9 @@ some_orphan shots cues = list_any (λ shot. orphan shot cues) shots
 unfoldable pub orphaned : ℕ → List Fact → Bool
 orphaned c fs = some_orphan (rows 1 c fs) (rows 2 c fs)
 
--- the lowest number from c on that passes the test, of k numbers
-abbrev pub lowest_from : ℕ → ℕ → (ℕ → Bool) → Option ℕ
-lowest_from c zero test = None
-lowest_from c (suc k) test = cond (test c) (Some c) (lowest_from (c + 1) k test)
-
 -- the lowest number below k that passes the test
 unfoldable pub lowest_below : ℕ → (ℕ → Bool) → Option ℕ
-lowest_below k test = lowest_from 0 k test
+lowest_below k test = find test (range_with_len 0 k)
 
 -- yes where no choice speaks against it, else no with that choice
 abbrev pub vote_on : Option ℕ → Vote

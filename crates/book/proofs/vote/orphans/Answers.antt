@@ -1,8 +1,7 @@
-use Rattle.std.proofs.Common.{◌≡◌, ℕ, ◌-◌, ◌^◌, not, ◌&&◌, map, sym, ap, ◌∙◌, arith}
+use Rattle.std.proofs.Common.{◌≡◌, ℕ, ◌-◌, ◌^◌, not, ◌&&◌, map, ap, ◌∙◌, arith}
 use lib.Bits.{bit_and}
 use Rattle.std.proofs.lemmas.List.{take_all}
 use Rattle.conditions.specs.Choices.{bit}
-use Rattle.conditions.proofs.Bits.{bit_zero}
 use Rattle.book.specs.Lines.{seen}
 use Rattle.book.specs.Tables.{rows}
 use Rattle.book.specs.Votes.{orphaned}

@@ -1,4 +1,4 @@
-use Rattle.std.proofs.Common.{◌≡◌, true, false, map, ap, arith}
+use Rattle.std.proofs.Common.{true, false, map, ap, arith}
 use Rattle.std.proofs.lemmas.List.{nil_from_length}
 use Rattle.book.specs.Lines.{seen}
 use Rattle.book.specs.Tables.{row_count}
