@@ -60,7 +60,7 @@ pair_narrowed n i s p a q b h isq isb = fun_ext (λ c. rw (lt-ltb i n h) (
 
 -- a choice in which one position ends otherwise than asked
 refused : (n p a c j : ℕ) → j < n → asked p a c j ≡ false → in_pair n p a c ≡ false
-refused n p a c j h e = elim (cases_Bool (in_pair n p a c)) [ inl t ↦ absurd (both_ways _ e (((pair_decides n p a c).0 t).1 j h)) | inr f ↦ f ]
+refused n p a c j h e = grind (arith, pair_decides n p a c)
 
 -- decided otherwise than asked: no choice is left
 pub pair_contrary : (n i : ℕ) (s : Bool) (p a : ℕ) → i < n → bit i (contradicting s p a) ≡ true → in_pair n 1 1 ≡ deciding n i s (in_pair n p a)

@@ -88,8 +88,8 @@ impl Positions {
         ensures { (c : ℕ) → c < 2 ^ positions → bit c result ≡ agreeing positions commits self.bits c }
     {
         let mut verdicts = u64::MAX;
+        // A counted loop: most sets are small, and it stops where the rest of this one is empty.
         for number in 0..POSITIONS as u8 {
-            // Most sets are small: the rest of this one is empty.
             if self.bits >> number == 0 {
                 return verdicts;
             }

@@ -38,7 +38,7 @@ impl Condition for TruthSet {
         };
         let verdicts = (0..CHOICES)
             .filter(|choice| self.holds(position.origin(commits, *choice)))
-            .fold(0u64, |verdicts, choice| verdicts | 1u64 << choice);
+            .fold(0, |verdicts, choice| verdicts | 1 << choice);
         TruthSet { verdicts }
     }
 
