@@ -50,6 +50,7 @@ module _ {C : Type 0} (m : C → ℕ → Bool) {A : Type 0} {e : Effect A} {p : 
   pub stopped : {f : BookFault} → rising 0 (e.grounds (state m a)) ≡ true → Stops (e.grounds (state m a)) f → Performed m e p a a (Err f)
   stopped up is = record { called = refused m up is; plainly = tt }
 
+  -- a fault that was passed up
   pub stopped_by : (f : BookFault) {r : Result A BookFault} → IsErrAnd r (λ x. x ≡ f) → rising 0 (e.grounds (state m a)) ≡ true → Stops (e.grounds (state m a)) f → Performed m e p a a r
   stopped_by f {r} by up is = let q = err_from_is_err_and r by in rw (q.1, q.2) (stopped up is)
 
@@ -67,6 +68,7 @@ module _ {C : Type 0} (m : C → ℕ → Bool) {A : Type 0} {e : Effect A} {b : 
   pub unanswered : {f : BookFault} → rising 0 (e.grounds (state m b)) ≡ true → Stops (e.grounds (state m b)) f → Answered m e b (Err f)
   unanswered {f} up is = record { answers = sym (stops _ f (e.answer (state m b)) is); told = told 0 _ f up is }
 
+  -- a fault that was passed up
   pub unanswered_by : (f : BookFault) {r : Result A BookFault} → IsErrAnd r (λ x. x ≡ f) → rising 0 (e.grounds (state m b)) ≡ true → Stops (e.grounds (state m b)) f → Answered m e b r
   unanswered_by f {r} by up is = let p = err_from_is_err_and r by in rw (p.1, p.2) (unanswered up is)
 
