@@ -1,5 +1,5 @@
 -- Refusals: what a check says of its ground, what is told, and that the smallest number wins.
-use Rattle.std.proofs.Common.{◌≡◌, ℕ, suc, ◌≤◌, Bool, true, false, cond, ◌&&◌, ltb, ◌⊎◌, List, [], ◌∷◌, Some, None, Option, Ok, Err, refl, ap, inl, inr, arith}
+use Rattle.std.proofs.Common.{◌≡◌, ℕ, suc, ◌≤◌, Bool, true, false, ◌&&◌, ltb, ◌⊎◌, List, [], ◌∷◌, Some, None, Option, Ok, Err, refl, ap, inl, inr, arith}
 use Rattle.std.specs.Option.{ok_or}
 use Rattle.std.specs.List.{ContainsAt, AllByRecursion}
 use Rattle.std.proofs.lemmas.Bool.{ltb-true, and_parts, both_ways}
@@ -11,25 +11,13 @@ use Rattle.book.specs.Calls.{Ground, refusing}
 
 module _ {B : Type 0} (g : Ground) (c : B) where
   pub check_passed : {b : B} → Ok b ≡ refusing (g ∷ []) c → g.applies ≡ false
-  check_passed {b} is = go g.applies is
-    where
-      go : (t : Bool) → Ok b ≡ cond t (Err g.fault) (Ok c) → t ≡ false
-      go true is = let z : ◌≡◌ {A = ℕ} 0 1 = cc in absurd (omega arith)
-      go false is = refl
+  check_passed {b} is = grind arith
 
   pub check_value : {b : B} → Ok b ≡ refusing (g ∷ []) c → b ≡ c
-  check_value {b} is = go g.applies is
-    where
-      go : (t : Bool) → Ok b ≡ cond t (Err g.fault) (Ok c) → b ≡ c
-      go true is = let z : ◌≡◌ {A = ℕ} 0 1 = cc in absurd (omega arith)
-      go false is = cc
+  check_value {b} is = grind arith
 
   pub check_failed : {e : BookFault} → Err e ≡ refusing (g ∷ []) c → (g.applies ≡ true) × (g.fault ≡ e)
-  check_failed {e} is = go g.applies is
-    where
-      go : (t : Bool) → Err e ≡ cond t (Err g.fault) (Ok c) → (t ≡ true) × (g.fault ≡ e)
-      go true is = (refl, cc)
-      go false is = let z : ◌≡◌ {A = ℕ} 0 1 = cc in absurd (omega arith)
+  check_failed {e} is = (grind arith, grind arith)
 
 -- where `ok_or` refuses, it is with the fault that it was given
 pub ok_or_told : {A E : Type 0} (o : Option A) {e f : E} → Err e ≡ ok_or o f → f ≡ e

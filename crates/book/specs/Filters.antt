@@ -57,6 +57,7 @@ good_filter p = p.field == 0 || (nat_le p.field 4 && nat_le p.low p.high)
 abbrev pub filter_fault : RawFilter → FilterFault
 filter_fault p = cond (nat_le p.field 4) (Backward p.low p.high) (NoFilterField p.field)
 
+-- without a range every row passes
 abbrev pub passes_range : Option Range → Row → Bool
 passes_range None r = true
 passes_range (Some w) r = between w.low w.high w.field r
