@@ -1,4 +1,3 @@
-pub mod Decoding
 pub mod Leaving
 pub mod Relabelling
 pub mod Running

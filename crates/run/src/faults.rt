@@ -1,19 +1,19 @@
 ghost use Rattle.std.specs.Prelude.{◌≡◌};
 ghost use Rattle.run.specs.declared.faults.RunFault.TheVariants.{OnPage, InBook};
-ghost use Rattle.run.specs.Faults.{page_refusal, run_refusal, located};
+ghost use Rattle.run.specs.Faults.{page_refusal, run_refusal};
 
 use crate::calls::Answer;
 use book::BookFault;
 
 // Why a record could not be read.
-#[derive(Clone, Copy)]
+#[derive(Clone, Copy, Debug, PartialEq, Eq)]
 pub enum PageFault {
     CutShort,
     UnknownKind,
 }
 
 // A fault, with the place and the kind of its record.
-#[derive(Clone, Copy)]
+#[derive(Clone, Copy, Debug, PartialEq, Eq)]
 pub struct At<F> {
     pub place: usize,
     pub kind: u8,
@@ -47,16 +47,6 @@ impl From<At<BookFault>> for RunFault {
 
     fn from(e: At<BookFault>) -> RunFault {
         RunFault::InBook(e)
-    }
-}
-
-// A refusal gets the place and the kind of its record, so that `?` can pass it up.
-pub(crate) fn locate<T: Drop, F: Copy>(place: usize, kind: u8, r: Result<T, F>) -> Result<T, At<F>>
-    ensures { result ≡ located place kind r }
-{
-    match r {
-        Ok(x) => Ok(x),
-        Err(fault) => Err(At { place, kind, fault }),
     }
 }
 

@@ -4,7 +4,7 @@ ghost use Rattle.run.specs.Records.{decoded};
 ghost use Rattle.run.specs.Runs.{outcome_of, record_at, next_of, reply_to, Taken, Paged};
 
 use crate::calls::{Answer, Call};
-use crate::faults::{PageFault, Reply, RunFault, locate};
+use crate::faults::{At, PageFault, Reply, RunFault};
 use crate::performing::perform;
 use crate::records::decode;
 use book::Book;
@@ -21,9 +21,9 @@ fn outcome<C: Condition>(
     ensures told { result ≡ outcome_of place kind read (state C.Condition.meaning book.old) }
     ensures taken { Taken C.Condition.meaning read book.old book.new }
 {
-    let (call, _) = locate(place, kind, read)?;
-    let answer = perform(book, call);
-    Ok(locate(place, kind, answer)?)
+    let (call, _) = read.map_err(|fault| At { place, kind, fault })?;
+    let answer = perform(book, call).map_err(|fault| At { place, kind, fault })?;
+    Ok(answer)
 }
 
 // One record of the page, and where the next begins.
