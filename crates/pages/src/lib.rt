@@ -27,12 +27,19 @@ mod tests {
         }
     }
 
+    // What a page prints on a book of N lines.
+    fn printed<C: Condition, const N: usize>(
+        heap: Global,
+        first: u32,
+        page: &[u8],
+    ) -> io::Result<String> {
+        report(heap, &mut [blank::<C>(); N], first, page)
+    }
+
     // The page prints this on a book of 256 lines, whichever kind its conditions are.
     fn prints(rt: &impl Abort, heap: Global, page: &[u8], expected: &str) -> Result<(), Fail> {
-        let signed = report(heap, &mut [blank::<SignedPair>(); 256], 1, page)?;
-        assert_eq!(rt; signed.as_str(), expected);
-        let truth = report(heap, &mut [blank::<TruthSet>(); 256], 1, page)?;
-        assert_eq!(rt; truth.as_str(), expected);
+        assert_eq!(rt; printed::<SignedPair, 256>(heap, 1, page)?.as_str(), expected);
+        assert_eq!(rt; printed::<TruthSet, 256>(heap, 1, page)?.as_str(), expected);
         Ok(())
     }
 
