@@ -1,4 +1,6 @@
 ghost use Rattle.std.specs.Prelude.{◌≡◌, length};
+ghost use Rattle.std.specs.Iterator.{YieldsFirst, item_count};
+ghost use Rattle.run.specs.Runs.{records_within};
 ghost use Rattle.run.specs.Records.{number_of, row_of, filter_of, change_of, body_size, call_of, decoded};
 
 use crate::calls::{Call, Kind};
@@ -94,4 +96,37 @@ pub fn decode(page: &[u8], at: usize) -> Result<(Call, usize), PageFault>
     let behind = &page[at + 1..];
     let body = behind.get(0..size).ok_or(PageFault::CutShort)?;
     Ok((read(kind, body), at + 1 + size))
+}
+
+// A record of a page: its place, its kind, and what was read, with the place behind it.
+#[derive(Clone, Copy)]
+pub(crate) struct Record {
+    pub(crate) place: usize,
+    pub(crate) kind: u8,
+    pub(crate) read: Result<(Call, usize), PageFault>,
+}
+
+// The records of a page from a place on. One that cannot be read is the last.
+#[derive(Clone, Copy)]
+pub(crate) struct Records<'a> {
+    pub(crate) page: &'a [u8],
+    pub(crate) at: usize,
+}
+
+impl<'a> Iterator for Records<'a> {
+    type Item = Record;
+
+    ghost next_gives = { YieldsFirst (λ s. records_within s.page.now s.at) };
+
+    ghost remaining = { item_count (λ s. records_within s.page.now s.at) };
+
+    #[tactic(auto, using(crate::proofs::Running::records_next, crate::proofs::Running::records_done))]
+    fn next(&mut self) -> Option<Record> {
+        let page = self.page;
+        let place = self.at;
+        let kind = *page.get(place)?;
+        let read = decode(page, place);
+        self.at = read.map_or(page.len(), |(_, next)| next);
+        Some(Record { place, kind, read })
+    }
 }
