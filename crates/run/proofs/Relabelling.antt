@@ -1,5 +1,6 @@
 -- A call keeps its promises when its answer is given another name.
 use Rattle.std.proofs.Common.{◌≡◌, ℕ, Bool, true, false, cond, List, [], ◌∷◌, Ok, Err, Result, refl, ap, ◌∙◌}
+use Rattle.std.specs.Result.{result_map_both}
 use Rattle.book.specs.declared.book.Book.{Book}
 use Rattle.book.specs.declared.faults.BookFault.{BookFault}
 use Rattle.book.specs.Calls.{Ground, Effect, refusing}
@@ -8,8 +9,7 @@ use Rattle.run.specs.Runs.{answering}
 
 module _ {A B : Type 0} (f : A → B) where
   abbrev pub mapped : Result A BookFault → Result B BookFault
-  mapped (Ok x) = Ok (f x)
-  mapped (Err e) = Err e
+  mapped r = result_map_both f (λ e. e) r
 
   refusing_mapped : (gs : List Ground) (a : A) → mapped (refusing gs a) ≡ refusing gs (f a)
   refusing_mapped [] a = refl

@@ -1,6 +1,6 @@
 -- A page, record by record.
 use Rattle.std.proofs.Common.{◌≡◌, ℕ, zero, suc, ◌+◌, ◌-◌, ◌<◌, ◌≤◌, max, Bool, true, false, cond, leb, ltb, List, [], ◌∷◌, ◌++◌, length, get_or, Some, None, Ok, Err, Option, sym, refl, ap, ◌∙◌, append_assoc, append-nil, ⊎_elim, arith}
-use Rattle.std.proofs.lemmas.Bool.{lt-ltb, le-ltb, leb-true, cases_lt}
+use Rattle.std.proofs.lemmas.Bool.{lt-ltb, le-ltb, cases_lt}
 use Rattle.book.specs.Calls.{State}
 use Rattle.run.specs.declared.calls.Kind.{Kind}
 use Rattle.run.specs.declared.faults.PageFault.TheVariants.{CutShort}
@@ -39,9 +39,9 @@ records_enough (suc j) zero page at h i = records_end (suc j) page at (omega ari
 records_enough (suc j) (suc k) page at h i =
     ⊎_elim
     (λ (lt : at < length page).
-      let next = next_of page (decoded page at) in
-      let on = onward page at lt in
-      records_more page at lt j ∙ ap (λ rs. record_at page at ∷ rs) (records_enough j k page next (omega arith) (omega arith)) ∙ sym (records_more page at lt k))
+    let next = next_of page (decoded page at) in
+    let on = onward page at lt in
+    records_more page at lt j ∙ ap (λ rs. record_at page at ∷ rs) (records_enough j k page next (omega arith) (omega arith)) ∙ sym (records_more page at lt k))
     (λ (le : length page ≤ at). records_end (suc j) page at le ∙ sym (records_end (suc k) page at le))
     (cases_lt at (length page))
 

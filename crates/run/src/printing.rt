@@ -29,7 +29,11 @@ impl fmt::Display for Reply {
     ghost output = { λ r. Some (reply_text r) };
 
     fn fmt<W: fmt::Write>(&self, f: &mut fmt::Formatter<W>) -> fmt::Result {
-        let Reply { place, kind, outcome } = self;
+        let Reply {
+            place,
+            kind,
+            outcome,
+        } = self;
         match outcome {
             Ok(answer) => write!(f, "{place} {kind} ok {answer}"),
             Err(fault) => write!(f, "{place} {kind} refused {}", fault.number()),
@@ -48,9 +52,9 @@ pub fn text(heap: Global, replies: &[Reply]) -> Result<String, fmt::Error>
     Ok(text)
 }
 
-#[tactic(auto, using(crate::proofs::Leaving::left_in))]
 // What is printed of a page that is run on a new book over these lines. Where there is no memory for the text, the page
 // has been run or not.
+#[tactic(auto, using(crate::proofs::Leaving::left_in))]
 pub fn report<C: Condition>(
     heap: Global,
     lines: &mut [Line<C>],

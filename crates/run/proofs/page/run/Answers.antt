@@ -1,4 +1,4 @@
-use Rattle.std.proofs.Common.{◌≡◌, length, refl, ap, ◌∙◌, arith}
+use Rattle.std.proofs.Common.{length, refl, ap, ◌∙◌, arith}
 use Rattle.book.specs.Books.{state, reach}
 use Rattle.book.proofs.Dropping.{drop_further}
 use Rattle.run.specs.Runs.{records, peak}
