@@ -8,7 +8,7 @@ use Rattle.book.specs.Books.{state, Called}
 use Rattle.run.specs.Runs.{answering}
 
 module _ {A B : Type 0} (f : A → B) where
-  abbrev pub mapped : Result A BookFault → Result B BookFault
+  abbrev mapped : Result A BookFault → Result B BookFault
   mapped r = result_map_both f (λ e. e) r
 
   refusing_mapped : (gs : List Ground) (a : A) → mapped (refusing gs a) ≡ refusing gs (f a)

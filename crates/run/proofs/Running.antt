@@ -55,6 +55,9 @@ records_next page at h =
 pub records_done : (page : List ℕ) (at : ℕ) → length page ≤ at → records_within page at ≡ []
 records_done page at h = records_end (length page) page at h
 
+-- what an iterator over the records needs
+pub ruleset one_by_one = (records_next, records_done)
+
 -- no more records than bytes
 pub records_few : (k : ℕ) (page : List ℕ) (at : ℕ) → length (records_from k page at) ≤ k
 unfolding records_from
@@ -101,3 +104,6 @@ module _ {rs₀ : List Record} {s₀ s : State} {xs : List Reply} (ran : Ran rs�
   pub ran_final : s ≡ final rs₀ s₀
   unfolding final
   ran_final = sym ran.last
+
+-- where a run begins, and where it ends
+pub ruleset running = (records_few, ran_none, ran_replies, ran_final)

@@ -34,6 +34,7 @@ fn reply<C: Condition>(book: &mut Book<C>, item: Record) -> Reply
 }
 
 // A whole page: one reply for each record. Where there is no memory for the replies, nothing is done.
+#[tactic(auto, using(crate::proofs::Running::running))]
 pub fn run<C: Condition>(
     heap: Global,
     book: &mut Book<C>,

@@ -120,7 +120,7 @@ impl<'a> Iterator for Records<'a> {
 
     ghost remaining = { item_count (λ s. records_within s.page.now s.at) };
 
-    #[tactic(auto, using(crate::proofs::Running::records_next, crate::proofs::Running::records_done))]
+    #[tactic(auto, using(crate::proofs::Running::one_by_one))]
     fn next(&mut self) -> Option<Record> {
         let page = self.page;
         let place = self.at;
