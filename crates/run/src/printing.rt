@@ -54,7 +54,7 @@ pub fn text(heap: Global, replies: &[Reply]) -> Result<String, fmt::Error>
 
 // What is printed of a page that is run on a new book over these lines. Where there is no memory for the text, the page
 // has been run or not.
-#[tactic(auto, using(crate::proofs::Leaving::facts_of))]
+#[tactic(auto, using(std::proofs::lemmas::List::take_min))]
 pub fn report<C: Condition>(
     heap: Global,
     lines: &mut [Line<C>],
