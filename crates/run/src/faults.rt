@@ -50,7 +50,7 @@ impl From<At<BookFault>> for RunFault {
     }
 }
 
-// A number is printed, and not made back into a fault: a conversion to `u8` would say no more than this name.
+// Kept as a method: `From` for `u8` would say no more than the name `number`.
 impl PageFault {
     pub fn number(self) -> u8
         ensures { result ≡ (page_refusal self).number }

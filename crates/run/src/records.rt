@@ -20,7 +20,7 @@ fn row(bytes: &[u8]) -> Row
     ensures { result ≡ row_of bytes.now }
 {
     Row {
-        first: number(&bytes[0..4]),
+        first: number(&bytes[..4]),
         second: number(&bytes[4..8]),
         third: number(&bytes[8..12]),
         fourth: number(&bytes[12..16]),
@@ -56,23 +56,23 @@ fn read(kind: Kind, body: &[u8]) -> Call
     match kind {
         Kind::OpenKind => Call::Open,
         Kind::InsertKind => Call::Insert {
-            number: number(&body[0..4]),
+            number: number(&body[..4]),
             table: body[4],
             row: row(&body[5..21]),
         },
         Kind::DeleteKind => Call::Delete {
-            number: number(&body[0..4]),
+            number: number(&body[..4]),
             table: body[4],
             filter: filter(&body[5..14]),
         },
         Kind::UpdateKind => Call::Update {
-            number: number(&body[0..4]),
+            number: number(&body[..4]),
             table: body[4],
             filter: filter(&body[5..14]),
             change: change(&body[14..20]),
         },
         Kind::DecideKind => Call::Decide {
-            number: number(&body[0..4]),
+            number: number(&body[..4]),
             word: body[4],
         },
         Kind::VoteKind => Call::Vote {
@@ -94,7 +94,7 @@ pub fn decode(page: &[u8], at: usize) -> Result<(Call, usize), PageFault>
     let kind = Kind::try_from(byte)?;
     let size = kind.size();
     let behind = &page[at + 1..];
-    let body = behind.get(0..size).ok_or(PageFault::CutShort)?;
+    let body = behind.get(..size).ok_or(PageFault::CutShort)?;
     Ok((read(kind, body), at + 1 + size))
 }
 
