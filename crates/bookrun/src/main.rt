@@ -1,6 +1,6 @@
 #![tactic(auto)]
 
-ghost use Rattle.std.specs.Prelude.{◌≡◌, ℕ, ◌≤◌, IfOk, string_bytes};
+ghost use Rattle.std.specs.Prelude.{◌≡◌, take, IfOk, IfSome, string_bytes};
 ghost use Rattle.book.specs.Calls.{fresh};
 ghost use Rattle.run.specs.Runs.{records, replies};
 ghost use Rattle.run.specs.Texts.{text_of};
@@ -13,28 +13,18 @@ use std::io;
 use std::io::{Read, Write};
 
 // The most bytes of a page that are read.
-const LIMIT: usize = 65536;
+const LIMIT: u64 = 65536;
 
 // The lines that the book works with.
 const LINES: usize = 256;
 
-// Reads until the input ends or the array is full, and says how much there was.
-fn slurp(rt: &HostRuntime, page: &mut [u8; LIMIT]) -> io::Result<usize>
-    ensures { IfOk result (λ n. n ≤ 65536) }
+// The input, up to the limit.
+fn slurp<R: Read + Drop>(heap: Global, input: R) -> io::Result<Vec<u8>>
+    ensures { IfOk result (λ page. IfSome (R.remaining input) (λ bytes. page.items ≡ take LIMIT bytes)) }
 {
-    let mut input = rt.stdin();
-    let mut n = 0;
-    for _ in 0..LIMIT {
-        if n >= LIMIT {
-            break;
-        }
-        let more = input.read(&mut page[n..LIMIT])?;
-        if more == 0 {
-            break;
-        }
-        n += more;
-    }
-    Ok(n)
+    let mut page = Vec::new(heap);
+    input.take(LIMIT).read_to_end(&mut page)?;
+    Ok(page)
 }
 
 // What is printed of a page: a line for each reply of a book of 256 lines whose first number is 1.
@@ -57,8 +47,7 @@ fn printed(heap: Global, page: &[u8]) -> io::Result<String>
 }
 
 fn main(rt: HostRuntime) -> io::Result<()> {
-    let mut page = [0u8; LIMIT];
-    let n = slurp(&rt, &mut page)?;
-    let text = printed(rt.alloc(), &page[0..n])?;
+    let page = slurp(rt.alloc(), rt.stdin())?;
+    let text = printed(rt.alloc(), page.as_slice())?;
     rt.stdout().write_all(text.as_bytes())
 }

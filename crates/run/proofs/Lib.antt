@@ -1,4 +1,2 @@
-pub mod Decoding
-pub mod Leaving
 pub mod Relabelling
 pub mod Running

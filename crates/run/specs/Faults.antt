@@ -1,11 +1,10 @@
 -- The refusals of a run, as they are told.
-use Rattle.std.specs.Prelude.{ℕ, [], ◌∷◌, Ok, Err, Result}
+use Rattle.std.specs.Prelude.{ℕ, [], ◌∷◌}
 use Rattle.book.specs.Faults.{Refusal, refusal}
 use Rattle.run.specs.declared.faults.PageFault.{PageFault}
 use Rattle.run.specs.declared.faults.PageFault.TheVariants.{CutShort, UnknownKind}
 use Rattle.run.specs.declared.faults.RunFault.{RunFault}
 use Rattle.run.specs.declared.faults.RunFault.TheVariants.{OnPage, InBook}
-use Rattle.run.specs.declared.faults.At.{At}
 
 abbrev pub page_refusal : PageFault → Refusal
 page_refusal CutShort = record { number = 12; carries = [] }
@@ -18,8 +17,3 @@ located_refusal place kind r = record { number = r.number; carries = place ∷ (
 abbrev pub run_refusal : RunFault → Refusal
 run_refusal (OnPage e) = located_refusal e.place e.kind (page_refusal e.fault)
 run_refusal (InBook e) = located_refusal e.place e.kind (refusal e.fault)
-
--- a fault, with the place and the kind of its record
-abbrev pub located : {A F : Type 0} → ℕ → ℕ → Result A F → Result A (At F)
-located place kind (Ok x) = Ok x
-located place kind (Err e) = Err (record { place = place; kind = kind; fault = e })

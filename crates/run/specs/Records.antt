@@ -1,6 +1,5 @@
 -- The records of a page: one byte of kind, then a body whose length the kind fixes.
-use Rattle.std.specs.Prelude.{◌≡◌, ℕ, ◌+◌, ◌*◌, ◌<◌, ◌≤◌, cond, List, length, take, drop, Some, None, Ok, Err, Option, Result, ◌==◌, nat_le, slice_index}
-use Rattle.std.specs.Borrow.{Bor}
+use Rattle.std.specs.Prelude.{ℕ, ◌+◌, ◌*◌, cond, List, length, take, drop, Some, None, Ok, Err, Option, Result, ◌==◌, nat_le, slice_index, slice_range}
 use Rattle.book.specs.declared.row.Row.{Row}
 use Rattle.book.specs.declared.filter.RawFilter.{RawFilter}
 use Rattle.book.specs.declared.change.RawChange.{RawChange}
@@ -33,37 +32,32 @@ body_size DecideKind = 5
 body_size VoteKind = 4
 body_size CountKind = 2
 
--- the number of four bytes at a place, the highest first
-abbrev pub number_at : List ℕ → ℕ → ℕ
-number_at b i = slice_index b i * 16777216 + slice_index b (i + 1) * 65536 + slice_index b (i + 2) * 256 + slice_index b (i + 3)
+-- the number of four bytes, the highest first
+abbrev pub number_of : List ℕ → ℕ
+number_of b = slice_index b 0 * 16777216 + slice_index b 1 * 65536 + slice_index b 2 * 256 + slice_index b 3
 
-abbrev pub row_at : List ℕ → ℕ → Row
-row_at b i = record { first = number_at b i; second = number_at b (i + 4); third = number_at b (i + 8); fourth = number_at b (i + 12) }
+abbrev pub row_of : List ℕ → Row
+row_of b = record { first = number_of (slice_range b 0 4); second = number_of (slice_range b 4 8); third = number_of (slice_range b 8 12); fourth = number_of (slice_range b 12 16) }
 
-abbrev pub filter_at : List ℕ → ℕ → RawFilter
-filter_at b i = record { field = slice_index b i; low = number_at b (i + 1); high = number_at b (i + 5) }
+abbrev pub filter_of : List ℕ → RawFilter
+filter_of b = record { field = slice_index b 0; low = number_of (slice_range b 1 5); high = number_of (slice_range b 5 9) }
 
-abbrev pub change_at : List ℕ → ℕ → RawChange
-change_at b i = record { field = slice_index b i; operation = slice_index b (i + 1); amount = number_at b (i + 2) }
+abbrev pub change_of : List ℕ → RawChange
+change_of b = record { field = slice_index b 0; operation = slice_index b 1; amount = number_of (slice_range b 2 6) }
 
 -- the call that a body stands for
 abbrev pub call_of : Kind → List ℕ → Call
 call_of OpenKind b = Open
-call_of InsertKind b = Insert (number_at b 0) (slice_index b 4) (row_at b 5)
-call_of DeleteKind b = Delete (number_at b 0) (slice_index b 4) (filter_at b 5)
-call_of UpdateKind b = Update (number_at b 0) (slice_index b 4) (filter_at b 5) (change_at b 14)
-call_of DecideKind b = Decide (number_at b 0) (slice_index b 4)
-call_of VoteKind b = Vote (number_at b 0)
+call_of InsertKind b = Insert (number_of (slice_range b 0 4)) (slice_index b 4) (row_of (slice_range b 5 21))
+call_of DeleteKind b = Delete (number_of (slice_range b 0 4)) (slice_index b 4) (filter_of (slice_range b 5 14))
+call_of UpdateKind b = Update (number_of (slice_range b 0 4)) (slice_index b 4) (filter_of (slice_range b 5 14)) (change_of (slice_range b 14 20))
+call_of DecideKind b = Decide (number_of (slice_range b 0 4)) (slice_index b 4)
+call_of VoteKind b = Vote (number_of b)
 call_of CountKind b = Count (slice_index b 0) (slice_index b 1)
 
 -- the n bytes behind the kind of the record at a place
 abbrev pub part : List ℕ → ℕ → ℕ → List ℕ
 part page at n = take n (drop (at + 1) page)
-
--- those bytes, if they are all there
-abbrev pub Bodied : List ℕ → ℕ → ℕ → Result (Bor (List ℕ)) PageFault → Type 0
-Bodied page at n (Ok b) = (b.now ≡ part page at n) × (length b.now ≡ n) × (at + 1 + n ≤ length page)
-Bodied page at n (Err e) = (e ≡ CutShort) × (length page < at + 1 + n)
 
 -- a record of a kind, and the place behind it
 abbrev pub of_kind : Option Kind → List ℕ → ℕ → Result (Call × ℕ) PageFault

@@ -14,6 +14,7 @@ use Rattle.run.specs.declared.faults.PageFault.{PageFault}
 use Rattle.run.specs.declared.faults.RunFault.{RunFault}
 use Rattle.run.specs.declared.faults.RunFault.TheVariants.{OnPage, InBook}
 use Rattle.run.specs.declared.faults.Reply.{Reply}
+use Rattle.run.specs.declared.records.Record.{Record}
 use Rattle.run.specs.Records.{decoded}
 
 -- the same call, with its answer under another name
@@ -31,11 +32,6 @@ effect (Vote number) = answering Voted (voted number)
 effect (Count table choice) = answering Rows (counted table choice)
 
 -- a record of a page: its place, its kind, and what was read
-pub record Record : Type 0 where
-  pub place : ℕ
-  pub kind : ℕ
-  pub read : Result (Call × ℕ) PageFault
-
 abbrev pub record_at : List ℕ → ℕ → Record
 record_at page at = record { place = at; kind = slice_index page at; read = decoded page at }
 
@@ -49,9 +45,12 @@ unfoldable pub records_from : ℕ → List ℕ → ℕ → List Record
 records_from zero page at = []
 records_from (suc n) page at = cond (nat_lt at (length page)) (record_at page at ∷ records_from n page (next_of page (decoded page at))) []
 
--- each record takes a byte or more
+-- all the records from a place on: each takes a byte or more
+abbrev pub records_within : List ℕ → ℕ → List Record
+records_within page at = records_from (length page) page at
+
 abbrev pub records : List ℕ → List Record
-records page = records_from (length page) page 0
+records page = records_within page 0
 
 -- what is told of a call
 abbrev pub told : ℕ → ℕ → Result Answer BookFault → Result Answer RunFault

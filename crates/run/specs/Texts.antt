@@ -23,9 +23,10 @@ abbrev pub outcome_text : Result Answer RunFault → List ℕ
 outcome_text (Ok answer) = codes " ok " ++ answer_text answer
 outcome_text (Err e) = codes " refused " ++ decimal (run_refusal e).number
 
--- `PLACE KIND ok ANSWER` or `PLACE KIND refused NUMBER`, and the end of the line
-abbrev pub line_of : Reply → List ℕ
-line_of r = decimal r.place ++ (codes " " ++ (decimal r.kind ++ (outcome_text r.outcome ++ codes "\n")))
+-- `PLACE KIND ok ANSWER` or `PLACE KIND refused NUMBER`
+abbrev pub reply_text : Reply → List ℕ
+reply_text r = decimal r.place ++ (codes " " ++ (decimal r.kind ++ outcome_text r.outcome))
 
+-- each reply has a line of its own
 abbrev pub text_of : List Reply → List ℕ
-text_of rs = flat_map line_of rs
+text_of rs = flat_map (λ r. reply_text r ++ codes "\n") rs

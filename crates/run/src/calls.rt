@@ -1,6 +1,8 @@
-ghost use Rattle.std.specs.Prelude.{◌≡◌};
+ghost use Rattle.std.specs.Prelude.{◌≡◌, ok_or};
+ghost use Rattle.run.specs.declared.faults.PageFault.TheVariants.{UnknownKind};
 ghost use Rattle.run.specs.Records.{kind_of, body_size};
 
+use crate::faults::PageFault;
 use book::{RawChange, RawFilter, Row};
 
 // A call of a book, with any arguments.
@@ -46,7 +48,7 @@ pub enum Answer {
 }
 
 // The kinds of records.
-#[derive(Clone, Copy)]
+#[derive(Clone, Copy, Debug, PartialEq, Eq)]
 pub enum Kind {
     OpenKind,
     InsertKind,
@@ -57,22 +59,26 @@ pub enum Kind {
     CountKind,
 }
 
-impl Kind {
-    pub fn of(byte: u8) -> Option<Kind>
-        ensures { result ≡ kind_of byte }
-    {
+impl TryFrom<u8> for Kind {
+    type Error = PageFault;
+
+    ghost try_from_gives = { λ byte r. r ≡ ok_or (kind_of byte) UnknownKind };
+
+    fn try_from(byte: u8) -> Result<Kind, PageFault> {
         match byte {
-            1 => Some(Kind::OpenKind),
-            2 => Some(Kind::InsertKind),
-            3 => Some(Kind::DeleteKind),
-            4 => Some(Kind::UpdateKind),
-            5 => Some(Kind::DecideKind),
-            6 => Some(Kind::VoteKind),
-            7 => Some(Kind::CountKind),
-            _ => None,
+            1 => Ok(Kind::OpenKind),
+            2 => Ok(Kind::InsertKind),
+            3 => Ok(Kind::DeleteKind),
+            4 => Ok(Kind::UpdateKind),
+            5 => Ok(Kind::DecideKind),
+            6 => Ok(Kind::VoteKind),
+            7 => Ok(Kind::CountKind),
+            _ => Err(PageFault::UnknownKind),
         }
     }
+}
 
+impl Kind {
     // How many bytes the body has.
     pub fn size(self) -> usize
         ensures { result ≡ body_size self }

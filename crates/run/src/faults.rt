@@ -1,19 +1,19 @@
 ghost use Rattle.std.specs.Prelude.{◌≡◌};
 ghost use Rattle.run.specs.declared.faults.RunFault.TheVariants.{OnPage, InBook};
-ghost use Rattle.run.specs.Faults.{page_refusal, run_refusal, located};
+ghost use Rattle.run.specs.Faults.{page_refusal, run_refusal};
 
 use crate::calls::Answer;
 use book::BookFault;
 
 // Why a record could not be read.
-#[derive(Clone, Copy)]
+#[derive(Clone, Copy, Debug, PartialEq, Eq)]
 pub enum PageFault {
     CutShort,
     UnknownKind,
 }
 
 // A fault, with the place and the kind of its record.
-#[derive(Clone, Copy)]
+#[derive(Clone, Copy, Debug, PartialEq, Eq)]
 pub struct At<F> {
     pub place: usize,
     pub kind: u8,
@@ -50,16 +50,7 @@ impl From<At<BookFault>> for RunFault {
     }
 }
 
-// A refusal gets the place and the kind of its record, so that `?` can pass it up.
-pub(crate) fn locate<T: Drop, F: Copy>(place: usize, kind: u8, r: Result<T, F>) -> Result<T, At<F>>
-    ensures { result ≡ located place kind r }
-{
-    match r {
-        Ok(x) => Ok(x),
-        Err(fault) => Err(At { place, kind, fault }),
-    }
-}
-
+// Kept as a method: `From` for `u8` would say no more than the name `number`.
 impl PageFault {
     pub fn number(self) -> u8
         ensures { result ≡ (page_refusal self).number }

@@ -11,42 +11,23 @@ pub fn perform<C: Condition>(book: &mut Book<C>, call: Call) -> Result<Answer, B
     ensures { Called C.Condition.meaning (effect call) book.old book.new result }
 {
     match call {
-        Call::Open => match book.open() {
-            Ok(number) => Ok(Answer::Opened(number)),
-            Err(e) => Err(e),
-        },
-        Call::Insert { number, table, row } => match book.insert(number, table, row) {
-            Ok(lines) => Ok(Answer::Lines(lines)),
-            Err(e) => Err(e),
-        },
+        Call::Open => book.open().map(Answer::Opened),
+        Call::Insert { number, table, row } => book.insert(number, table, row).map(Answer::Lines),
         Call::Delete {
             number,
             table,
             filter,
-        } => match book.delete(number, table, filter) {
-            Ok(lines) => Ok(Answer::Lines(lines)),
-            Err(e) => Err(e),
-        },
+        } => book.delete(number, table, filter).map(Answer::Lines),
         Call::Update {
             number,
             table,
             filter,
             change,
-        } => match book.update(number, table, filter, change) {
-            Ok(lines) => Ok(Answer::Lines(lines)),
-            Err(e) => Err(e),
-        },
-        Call::Decide { number, word } => match book.decide(number, word) {
-            Ok(lines) => Ok(Answer::Lines(lines)),
-            Err(e) => Err(e),
-        },
-        Call::Vote { number } => match book.vote(number) {
-            Ok(vote) => Ok(Answer::Voted(vote)),
-            Err(e) => Err(e),
-        },
-        Call::Count { table, choice } => match book.count(table, choice) {
-            Ok(rows) => Ok(Answer::Rows(rows)),
-            Err(e) => Err(e),
-        },
+        } => book
+            .update(number, table, filter, change)
+            .map(Answer::Lines),
+        Call::Decide { number, word } => book.decide(number, word).map(Answer::Lines),
+        Call::Vote { number } => book.vote(number).map(Answer::Voted),
+        Call::Count { table, choice } => book.count(table, choice).map(Answer::Rows),
     }
 }

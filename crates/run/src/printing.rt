@@ -1,7 +1,7 @@
-ghost use Rattle.std.specs.Prelude.{◌≡◌, ◌⊎◌, ◌++◌, length, IfOk, Some, string_bytes, MatchResult, OnOk};
+ghost use Rattle.std.specs.Prelude.{◌≡◌, ◌⊎◌, length, IfOk, Some, string_bytes, MatchResult};
 ghost use Rattle.book.specs.Calls.{fresh};
 ghost use Rattle.run.specs.Runs.{records, replies, LeftIn};
-ghost use Rattle.run.specs.Texts.{answer_text, line_of, text_of};
+ghost use Rattle.run.specs.Texts.{answer_text, reply_text, text_of};
 
 use crate::calls::Answer;
 use crate::faults::Reply;
@@ -25,17 +25,18 @@ impl fmt::Display for Answer {
     }
 }
 
-// One line for a reply, behind what is there.
-fn put(text: &mut String, reply: Reply) -> Result<(), AllocError>
-    ensures { OnOk result (string_bytes text.new ≡ string_bytes text.old ++ line_of reply) }
-{
-    let place = reply.place;
-    let kind = reply.kind;
-    match reply.outcome {
-        Ok(answer) => write!(text, "{place} {kind} ok {answer}\n"),
-        Err(fault) => {
-            let number = fault.number();
-            write!(text, "{place} {kind} refused {number}\n")
+impl fmt::Display for Reply {
+    ghost output = { λ r. Some (reply_text r) };
+
+    fn fmt<W: fmt::Write>(&self, f: &mut fmt::Formatter<W>) -> fmt::Result {
+        let Reply {
+            place,
+            kind,
+            outcome,
+        } = self;
+        match outcome {
+            Ok(answer) => write!(f, "{place} {kind} ok {answer}"),
+            Err(fault) => write!(f, "{place} {kind} refused {}", fault.number()),
         }
     }
 }
@@ -46,13 +47,14 @@ pub fn text(heap: Global, replies: &[Reply]) -> Result<String, fmt::Error>
 {
     let mut text = String::new(heap);
     for reply in replies {
-        put(&mut text, *reply)?;
+        writeln!(text, "{reply}")?;
     }
     Ok(text)
 }
 
 // What is printed of a page that is run on a new book over these lines. Where there is no memory for the text, the page
 // has been run or not.
+#[tactic(auto, using(std::proofs::lemmas::List::take_min))]
 pub fn report<C: Condition>(
     heap: Global,
     lines: &mut [Line<C>],

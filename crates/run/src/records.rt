@@ -1,49 +1,51 @@
-ghost use Rattle.std.specs.Prelude.{◌≡◌, ℕ, ◌+◌, ◌<◌, ◌≤◌, length};
-ghost use Rattle.run.specs.Records.{number_at, row_at, filter_at, change_at, body_size, call_of, Bodied, decoded};
+ghost use Rattle.std.specs.Prelude.{◌≡◌, length};
+ghost use Rattle.std.specs.Iterator.{YieldsFirst, item_count};
+ghost use Rattle.run.specs.Runs.{records_within};
+ghost use Rattle.run.specs.Records.{number_of, row_of, filter_of, change_of, body_size, call_of, decoded};
 
 use crate::calls::{Call, Kind};
 use crate::faults::PageFault;
 use book::{RawChange, RawFilter, Row};
 
-// The number of four bytes at a place, the highest first.
-fn number(body: &[u8], at: usize) -> u32
-    requires { (at + 4 ≤ length body.now) × (length body.now ≤ 21) }
-    ensures { result ≡ number_at body.now at }
+// The number of four bytes, the highest first.
+fn number(bytes: &[u8]) -> u32
+    requires { length bytes.now ≡ 4 }
+    ensures { result ≡ number_of bytes.now }
 {
-    u32::from_be_bytes([body[at], body[at + 1], body[at + 2], body[at + 3]])
+    u32::from_be_bytes([bytes[0], bytes[1], bytes[2], bytes[3]])
 }
 
-fn row(body: &[u8], at: usize) -> Row
-    requires { (at + 16 ≤ length body.now) × (length body.now ≤ 21) }
-    ensures { result ≡ row_at body.now at }
+fn row(bytes: &[u8]) -> Row
+    requires { length bytes.now ≡ 16 }
+    ensures { result ≡ row_of bytes.now }
 {
     Row {
-        first: number(body, at),
-        second: number(body, at + 4),
-        third: number(body, at + 8),
-        fourth: number(body, at + 12),
+        first: number(&bytes[..4]),
+        second: number(&bytes[4..8]),
+        third: number(&bytes[8..12]),
+        fourth: number(&bytes[12..16]),
     }
 }
 
-fn filter(body: &[u8], at: usize) -> RawFilter
-    requires { (at + 9 ≤ length body.now) × (length body.now ≤ 21) }
-    ensures { result ≡ filter_at body.now at }
+fn filter(bytes: &[u8]) -> RawFilter
+    requires { length bytes.now ≡ 9 }
+    ensures { result ≡ filter_of bytes.now }
 {
     RawFilter {
-        field: body[at],
-        low: number(body, at + 1),
-        high: number(body, at + 5),
+        field: bytes[0],
+        low: number(&bytes[1..5]),
+        high: number(&bytes[5..9]),
     }
 }
 
-fn change(body: &[u8], at: usize) -> RawChange
-    requires { (at + 6 ≤ length body.now) × (length body.now ≤ 21) }
-    ensures { result ≡ change_at body.now at }
+fn change(bytes: &[u8]) -> RawChange
+    requires { length bytes.now ≡ 6 }
+    ensures { result ≡ change_of bytes.now }
 {
     RawChange {
-        field: body[at],
-        operation: body[at + 1],
-        amount: number(body, at + 2),
+        field: bytes[0],
+        operation: bytes[1],
+        amount: number(&bytes[2..6]),
     }
 }
 
@@ -54,27 +56,27 @@ fn read(kind: Kind, body: &[u8]) -> Call
     match kind {
         Kind::OpenKind => Call::Open,
         Kind::InsertKind => Call::Insert {
-            number: number(body, 0),
+            number: number(&body[..4]),
             table: body[4],
-            row: row(body, 5),
+            row: row(&body[5..21]),
         },
         Kind::DeleteKind => Call::Delete {
-            number: number(body, 0),
+            number: number(&body[..4]),
             table: body[4],
-            filter: filter(body, 5),
+            filter: filter(&body[5..14]),
         },
         Kind::UpdateKind => Call::Update {
-            number: number(body, 0),
+            number: number(&body[..4]),
             table: body[4],
-            filter: filter(body, 5),
-            change: change(body, 14),
+            filter: filter(&body[5..14]),
+            change: change(&body[14..20]),
         },
         Kind::DecideKind => Call::Decide {
-            number: number(body, 0),
+            number: number(&body[..4]),
             word: body[4],
         },
         Kind::VoteKind => Call::Vote {
-            number: number(body, 0),
+            number: number(body),
         },
         Kind::CountKind => Call::Count {
             table: body[0],
@@ -83,31 +85,48 @@ fn read(kind: Kind, body: &[u8]) -> Call
     }
 }
 
-// The body of a record, if it is all there: a part of the caller's bytes.
-fn body(page: &[u8], at: usize, size: usize) -> Result<&[u8], PageFault>
-    requires { at < length page.now }
-    ensures { Bodied page.now at size result }
-{
-    let start = at + 1;
-    if page.len() - start < size {
-        return Err(PageFault::CutShort);
-    }
-    Ok(&page[start..start + size])
-}
-
 // The record at a place of the page, and the place behind it.
+#[tactic(auto, unfolding(crate::specs::Records::decoded))]
 pub fn decode(page: &[u8], at: usize) -> Result<(Call, usize), PageFault>
     ensures { result ≡ decoded page.now at }
 {
-    if at >= page.len() {
-        return Err(PageFault::UnknownKind);
-    }
-    match Kind::of(page[at]) {
-        None => Err(PageFault::UnknownKind),
-        Some(kind) => {
-            let size = kind.size();
-            let body = body(page, at, size)?;
-            Ok((read(kind, body), at + 1 + size))
-        }
+    let byte = *page.get(at).ok_or(PageFault::UnknownKind)?;
+    let kind = Kind::try_from(byte)?;
+    let size = kind.size();
+    let behind = &page[at + 1..];
+    let body = behind.get(..size).ok_or(PageFault::CutShort)?;
+    Ok((read(kind, body), at + 1 + size))
+}
+
+// A record of a page: its place, its kind, and what was read, with the place behind it.
+#[derive(Clone, Copy)]
+pub(crate) struct Record {
+    pub(crate) place: usize,
+    pub(crate) kind: u8,
+    pub(crate) read: Result<(Call, usize), PageFault>,
+}
+
+// The records of a page from a place on. One that cannot be read is the last.
+#[derive(Clone, Copy)]
+pub(crate) struct Records<'a> {
+    pub(crate) page: &'a [u8],
+    pub(crate) at: usize,
+}
+
+impl<'a> Iterator for Records<'a> {
+    type Item = Record;
+
+    ghost next_gives = { YieldsFirst (λ s. records_within s.page.now s.at) };
+
+    ghost remaining = { item_count (λ s. records_within s.page.now s.at) };
+
+    #[tactic(auto, using(crate::proofs::Running::one_by_one))]
+    fn next(&mut self) -> Option<Record> {
+        let page = self.page;
+        let place = self.at;
+        let kind = *page.get(place)?;
+        let read = decode(page, place);
+        self.at = read.map_or(page.len(), |(_, next)| next);
+        Some(Record { place, kind, read })
     }
 }
