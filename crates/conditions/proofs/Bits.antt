@@ -1,7 +1,7 @@
 -- The bits of a number, of any width and at any position: what the library says of `bit_at`, as tests.
-use Rattle.std.proofs.Common.{◌≡◌, ℕ, zero, suc, ◌+◌, ◌-◌, ◌*◌, ◌/◌, ◌%◌, ◌^◌, ◌<◌, ◌≤◌, Bool, true, false, not, ◌&&◌, ◌||◌, eqb, sym, ap, ◌∙◌, arith}
+use Rattle.std.proofs.Common.{◌≡◌, ℕ, zero, suc, ◌+◌, ◌-◌, ◌/◌, ◌%◌, ◌^◌, ◌<◌, ◌≤◌, Bool, true, false, not, ◌&&◌, ◌||◌, eqb, sym, ap, ◌∙◌, arith}
 use lib.Bits.{bit_and, bit_or}
-use Rattle.std.proofs.lemmas.Nat.{one_shl, shr-shr, shr_split}
+use Rattle.std.proofs.lemmas.Nat.{shr-shr, shr_split}
 use Rattle.std.proofs.lemmas.Nat.Bits.{bit_at-suc, bit_at-zero, bit_at-lt, bit_at-pow_same, bit_at-pow_other, bit_at_above, bit_at_and, bit_at_or, bit_at_ones, bit_at_cat_low, shr_and_one, same_from_bits_below}
 use Rattle.std.proofs.lemmas.Bool.Decides.{nat_tests}
 use Rattle.conditions.specs.Choices.{bit}
@@ -40,10 +40,6 @@ bit_ones n j h = ap on (bit_at_ones n j h)
 
 pub bit_pow : (j i : ℕ) → bit j (2 ^ i) ≡ eqb j i
 bit_pow j i = grind (arith, nat_tests, bit_at-pow_same i, bit_at-pow_other i j)
-
--- one position added, by a shift at w bits
-pub bit_set : (w i x j : ℕ) → i < w → bit j (bit_or x (1 * 2 ^ i % 2 ^ w)) ≡ (bit j x || eqb j i)
-bit_set w i x j h = rw (one_shl i w h) (bit_of_or j x (2 ^ i) ∙ ap (λ b. bit j x || b) (bit_pow j i))
 
 -- numbers with the same bits are equal
 pub bits_alike : (n x y : ℕ) → x < 2 ^ n → y < 2 ^ n → ((j : ℕ) → j < n → bit j x ≡ bit j y) → x ≡ y

@@ -13,6 +13,6 @@ returns c =
     let held : ℕ → Bool = λ k. in_set positions c.args.self.now.verdicts (source positions c.in-Some.position.number c.args.commits k) in
     let choices = YieldsList-from_range 0 64 64 c.filter.ensures.source refl in
     rw (← c.in-Some.ensures) (set_decided positions _ _ _ _ c.in-Some.position.within (λ k l.
-    collected c.fold-verdicts.ensures.ran (λ v x w q t. search rules) (YieldsList-from_filter _ held choices c.filter.ensures.closure (λ x b q t. search (rules, tests))) k l
+    collected c.fold-verdicts.ensures.ran (λ v x w q t. search rules) (YieldsList-from_filter _ held choices c.filter.ensures.closure (λ x b q t. (search (rules, tests), search (rules, tests)))) k l
     ∙ passing held 0 64 k
     ∙ grind (arith, nat_tests)))
