@@ -5,13 +5,9 @@ use Rattle.book.specs.declared.book.Book.{Book}
 use Rattle.book.specs.Lines.{facts}
 use Rattle.book.specs.Calls.{fresh}
 use Rattle.book.specs.Books.{state}
-use Rattle.book.proofs.Calling.{facts_long, facts_clip}
+use Rattle.book.proofs.Using.{used_is}
 use Rattle.run.specs.declared.faults.Reply.{Reply}
 use Rattle.run.specs.Runs.{records, final, peak, Paged, LeftIn}
-
--- the lines in use are the first of the memory
-facts_of : {C : Type 0} (m : C → ℕ → Bool) (n : ℕ) (ls : List (Line C)) → facts m (length (facts m n ls)) ls ≡ facts m n ls
-facts_of m n ls = ap (λ k. facts m k ls) (facts_long m n ls) ∙ facts_clip m n ls
 
 module _ {C : Type 0} (m : C → ℕ → Bool) (page : List ℕ) (first : ℕ) (xs : List (Line C)) (a b : Book C) (rs : List Reply)
     (made : state m a ≡ fresh (length xs) first) (same : a.lines.now ≡ xs) (ran : Paged m page a b rs) where
@@ -22,7 +18,7 @@ module _ {C : Type 0} (m : C → ℕ → Bool) (page : List ℕ) (first : ℕ) (
   left_in ys e = record {
     lines =
         let is = ap (λ s. s.lines) leaves in
-        (λ t. facts m (length (sym is t)) (e t)) ∙ facts_of m b.used b.lines.now ∙ is;
+        (λ t. facts m (length (sym is t)) (e t)) ∙ ap (λ k. facts m k b.lines.now) (sym (used_is m b)) ∙ is;
     beyond =
         let top = ap (peak (records page)) made in
         (λ t. drop (sym top t) (e t)) ∙ ran.beyond ∙ (λ t. drop (top t) (same t));
