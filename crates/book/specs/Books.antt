@@ -1,10 +1,9 @@
 -- A book in memory, and what every call promises of it.
-use Rattle.std.specs.Prelude.{◌≡◌, ℕ, ◌^◌, max, Bool, false, length, drop, IfOk, Err, Result}
+use Rattle.std.specs.Prelude.{◌≡◌, ℕ, ◌^◌, ◌<◌, max, Bool, false, List, length, drop, Some, None, Option, IfOk, Err, Result}
 use Rattle.std.specs.List.{AllByRecursion}
 use Rattle.book.specs.declared.book.Book.{Book}
 use Rattle.book.specs.declared.faults.BookFault.{BookFault}
-use Rattle.book.specs.Lines.{impossible}
-use Rattle.book.specs.Memory.{in_use}
+use Rattle.book.specs.Lines.{Fact, facts, impossible}
 use Rattle.book.specs.declared.vote.Vote.{Vote}
 use Rattle.book.specs.Votes.{Says}
 use Rattle.book.specs.Calls.{State, Effect, reply, after, Told, voted, speaks_against}
@@ -15,23 +14,45 @@ Possible s = AllByRecursion (λ f. impossible f ≡ false) s.lines
 
 -- over a kind of condition with the meaning m
 module _ {C : Type 0} (m : C → ℕ → Bool) where
+  -- the lines in use are the first of the memory
+  abbrev pub in_use : Book C → List Fact
+  in_use b = facts m b.used b.lines.now
+
   -- a book as it is meant
   abbrev pub state : Book C → State
   state b = record {
-    capacity = length b.lines.memory.now;
+    capacity = length b.lines.now;
     first = b.first;
     next = b.next;
     pending = b.pending.items;
-    lines = in_use m b.lines;
+    lines = in_use b;
   }
 
   -- both stand on the memory of one lender
   abbrev pub SameMemory : Book C → Book C → Type 0
-  SameMemory a b = b.lines.memory.ghost_name ≡ a.lines.memory.ghost_name
+  SameMemory a b = b.lines.ghost_name ≡ a.lines.ghost_name
 
   -- the places that are in use in a or in b
   abbrev pub reach : Book C → Book C → ℕ
   reach a b = max (length (state a).lines) (length (state b).lines)
+
+  -- A write took the lines of the book a to those of b.
+  --   lines    now fs are in use
+  --   size     the memory is as large as it was
+  --   numbers  nothing else of the book has changed
+  --   beyond   places in use neither before nor after hold what they held
+  --   lender   the book stays on the memory that it was lent
+  pub record Became (fs : List Fact) (a b : Book C) : Type 0 where
+    pub lines : in_use b ≡ fs
+    pub size : length b.lines.now ≡ length a.lines.now
+    pub numbers : (b.first ≡ a.first) × (b.next ≡ a.next) × (b.pending ≡ a.pending)
+    pub beyond : drop (max a.used b.used) b.lines.now ≡ drop (max a.used b.used) a.lines.now
+    pub lender : SameMemory a b
+
+  -- A write that leaves fs, where there is room for them; where there is none, it writes nothing and says so.
+  abbrev pub Fitted : List Fact → Book C → Book C → Option (Unit {0}) → Type 0
+  Fitted fs a b (Some _) = Became fs a b
+  Fitted fs a b None = (length a.lines.now < length fs) × (b ≡ a)
 
   -- A call took the book a to b, and answered r.
   --   answers   the reply is the one defined, and
@@ -46,7 +67,7 @@ module _ {C : Type 0} (m : C → ℕ → Bool) where
     pub leaves : state b ≡ after e (state a)
     pub told : Told (e.grounds (state a)) r
     pub refused : (f : BookFault) → r ≡ Err f → b ≡ a
-    pub beyond : drop (reach a b) b.lines.memory.now ≡ drop (reach a b) a.lines.memory.now
+    pub beyond : drop (reach a b) b.lines.now ≡ drop (reach a b) a.lines.now
     pub possible : Possible (state a) → Possible (state b)
     pub lender : SameMemory a b
 

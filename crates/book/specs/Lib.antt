@@ -2,7 +2,6 @@ pub mod Faults
 pub mod Filters
 pub mod Numbers
 pub mod Lines
-pub mod Memory
 pub mod Writes
 pub mod Tables
 pub mod Votes

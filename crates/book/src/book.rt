@@ -4,13 +4,11 @@ ghost use Rattle.book.specs.Filters.{passes};
 ghost use Rattle.book.specs.Calls.{fresh, refusing, garbled, not_pending, no_table, bad_choice, bad_making, opened, inserted, deleted, updated, decided, counted, position};
 ghost use Rattle.book.specs.Lines.{facts};
 ghost use Rattle.book.specs.Plain.{row_added, rows_removed, Writes, Updates, Decides};
-ghost use Rattle.book.specs.Books.{Called, Performed, Answered, Polled, state};
 
 use crate::change::{Change, RawChange};
 use crate::faults::BookFault;
 use crate::filter::{Filter, RawFilter};
 use crate::line::Line;
-use crate::lines::Lines;
 use crate::row::Row;
 use crate::tables::View;
 use crate::update::Update;
@@ -21,14 +19,16 @@ use conditions::{Condition, POSITIONS};
 // The most lines that a book can work with.
 const MOST_LINES: usize = 4096;
 
-// A change book over lent lines.
+// A change book over lent lines. Those in use stand in the first places of the memory.
 #[derive(Drop)]
 pub struct Book<'a, C> {
-    lines: Lines<'a, C>,
+    pub(crate) lines: &'a mut [Line<C>],
+    pub(crate) used: usize,
     first: u32,
     next: Option<u32>,
     // The numbers of the pending transactions, in order of opening.
     pending: ArrayVec<u32, POSITIONS>,
+    ghost within: { used ≤ length lines.now },
 }
 
 // Whether a book can be made of so many lines and this first number.
@@ -62,14 +62,17 @@ fn check_word(word: u8) -> Result<bool, BookFault>
 }
 
 impl<'a, C: Condition> Book<'a, C> {
+    ghost use Rattle.book.specs.Books.{Called, Performed, Answered, Polled, state};
+
     // Any memory and number make a book; one that `check_making` refuses gives out no number.
     pub fn make(lines: &'a mut [Line<C>], first: u32) -> Book<'a, C>
         ensures made { state C.Condition.meaning result ≡ fresh (length lines.old) first }
-        ensures same { result.lines.memory.now ≡ lines.old }
-        ensures lender { result.lines.memory.ghost_name ≡ lines.entry.ghost_name }
+        ensures same { result.lines.now ≡ lines.old }
+        ensures lender { result.lines.ghost_name ≡ lines.entry.ghost_name }
     {
         Book {
-            lines: Lines::none(lines),
+            lines,
+            used: 0,
             first,
             next: Some(first),
             pending: ArrayVec::new(),
@@ -79,10 +82,10 @@ impl<'a, C: Condition> Book<'a, C> {
     // How many lines are in use: they stand in the first places of the memory.
     pub fn len(&self) -> usize
         ensures count { result ≡ length (state C.Condition.meaning self.now).lines }
-        ensures first { facts C.Condition.meaning result self.now.lines.memory.now ≡ (state C.Condition.meaning self.now).lines }
-        ensures within { result ≤ length self.now.lines.memory.now }
+        ensures first { facts C.Condition.meaning result self.now.lines.now ≡ (state C.Condition.meaning self.now).lines }
+        ensures within { result ≤ length self.now.lines.now }
     {
-        self.lines.len()
+        self.used
     }
 
     fn position(&self, number: u32) -> Result<u8, BookFault>
@@ -121,7 +124,7 @@ impl<'a, C: Condition> Book<'a, C> {
             return Err(BookFault::TooManyPending);
         }
         let number = self.next.ok_or(BookFault::NumbersSpent)?;
-        check_making(self.lines.capacity(), self.first)?;
+        check_making(self.lines.len(), self.first)?;
         self.pending.push(number);
         self.next = number.checked_add(1);
         Ok(number)
@@ -134,7 +137,7 @@ impl<'a, C: Condition> Book<'a, C> {
         let position = self.position(number)?;
         check_table(table)?;
         let line = Line::inserted(position, table, row);
-        self.lines.push(line).ok_or(BookFault::NoRoom)?;
+        self.push_line(line).ok_or(BookFault::NoRoom)?;
         Ok(self.len())
     }
 
@@ -145,7 +148,7 @@ impl<'a, C: Condition> Book<'a, C> {
         let position = self.position(number)?;
         check_table(table)?;
         let filter = Filter::try_from(filter)?;
-        self.lines.retain_map(|line| {
+        self.retain_lines(|line| {
             if line.table == table && filter.passes(line.row) {
                 return line.ending(position, false).possible();
             }
@@ -175,7 +178,7 @@ impl<'a, C: Condition> Book<'a, C> {
             filter,
             change,
         };
-        self.lines.update(&update).ok_or(BookFault::NoRoom)?;
+        self.update_lines(&update).ok_or(BookFault::NoRoom)?;
         Ok(self.len())
     }
 
@@ -185,7 +188,7 @@ impl<'a, C: Condition> Book<'a, C> {
     {
         let commits = check_word(word)?;
         let position = self.position(number)?;
-        self.lines.retain_map(|line| {
+        self.retain_lines(|line| {
             let condition = line.condition.decided(position, commits);
             Line { condition, ..line }.possible()
         });
@@ -200,7 +203,7 @@ impl<'a, C: Condition> Book<'a, C> {
         check_table(table)?;
         self.check_choice(choice)?;
         let view = View { table, choice };
-        Ok(view.count_rows(self.lines.as_slice()))
+        Ok(view.count_rows(self.lines_in_use()))
     }
 
     // Whether the transaction can commit and leave no shot without its cue, however the others end.
@@ -210,6 +213,6 @@ impl<'a, C: Condition> Book<'a, C> {
         let position = self.position(number)?;
         let committing = C::always().narrowed(position, true).verdicts();
         let choices = committing & first_choices(self.choices());
-        Ok(vote_against(orphans(self.lines.as_slice(), choices)))
+        Ok(vote_against(orphans(self.lines_in_use(), choices)))
     }
 }

@@ -1,77 +1,47 @@
-ghost use Rattle.std.specs.Prelude.{◌≤◌, length};
+ghost use Rattle.std.specs.Prelude.{◌≡◌, ℕ, ◌≤◌, [], ◌∷◌, ◌++◌, length, List, map, nat_le};
+ghost use Rattle.std.specs.List.{flat_map};
+ghost use Rattle.book.specs.Lines.{Fact, seen, kept, Makes};
+ghost use Rattle.book.specs.Writes.{rewrite, updated_lines, split_lines};
+ghost use Rattle.book.specs.Books.{in_use, Became, Fitted};
 
+use crate::book::Book;
 use crate::line::Line;
 use crate::steps::compact;
 use crate::update::Update;
 use conditions::Condition;
 
-// Lines in lent memory: those in use stand in its first places.
-#[derive(Drop)]
-pub(crate) struct Lines<'a, C> {
-    memory: &'a mut [Line<C>],
-    used: usize,
-    ghost within: { used ≤ length memory.now },
-}
-
-impl<'a, C: Condition> Lines<'a, C> {
-    ghost use Rattle.std.specs.Prelude.{◌≡◌, ℕ, [], ◌∷◌, ◌++◌, List, map, nat_le};
-    ghost use Rattle.std.specs.List.{flat_map};
-    ghost use Rattle.book.specs.Lines.{Fact, seen, kept, Makes};
-    ghost use Rattle.book.specs.Writes.{rewrite, updated_lines, split_lines};
-    ghost use Rattle.book.specs.Memory.{in_use, Became, Fitted};
-
-    pub(crate) fn none(memory: &'a mut [Line<C>]) -> Lines<'a, C>
-        ensures none { in_use C.Condition.meaning result ≡ [] }
-        ensures same { result.memory.now ≡ memory.old }
-        ensures lender { result.memory.ghost_name ≡ memory.entry.ghost_name }
-    {
-        Lines { memory, used: 0 }
-    }
-
-    pub(crate) fn len(&self) -> usize
-        ensures { result ≡ self.now.used }
-    {
-        self.used
-    }
-
-    // How many lines the memory has room for.
-    pub(crate) fn capacity(&self) -> usize
-        ensures { result ≡ length self.now.memory.now }
-    {
-        self.memory.len()
-    }
-
-    // The lines in use.
-    pub(crate) fn as_slice(&self) -> &[Line<C>]
+// The lines of a book, as a vector in lent memory.
+impl<'a, C: Condition> Book<'a, C> {
+    pub(crate) fn lines_in_use(&self) -> &[Line<C>]
         ensures { map (seen C.Condition.meaning) result.now ≡ in_use C.Condition.meaning self.now }
     {
-        &self.memory[..self.used]
+        &self.lines[..self.used]
     }
 
     // Adds a line behind those in use; none where there is no room for it.
-    pub(crate) fn push(&mut self, line: Line<C>) -> Option<()>
+    pub(crate) fn push_line(&mut self, line: Line<C>) -> Option<()>
         ensures { Fitted C.Condition.meaning (in_use C.Condition.meaning self.old ++ seen C.Condition.meaning line ∷ []) self.old self.new result }
     {
-        if self.used >= self.memory.len() {
+        if self.used >= self.lines.len() {
             return None;
         }
-        self.memory[self.used] = line;
+        self.lines[self.used] = line;
         self.used += 1;
         Some(())
     }
 
     // Keeps what the step makes of each line.
-    pub(crate) fn retain_map<F: Fn(Line<C>) -> Option<Line<C>>>(&mut self, step: F)
+    pub(crate) fn retain_lines<F: Fn(Line<C>) -> Option<Line<C>>>(&mut self, step: F)
         requires { F.IsAlwaysCallable step }
         ensures { (becomes : Fact → List Fact) → Makes C.Condition.meaning (F.post step) becomes → Became C.Condition.meaning (flat_map becomes (in_use C.Condition.meaning self.old)) self.old self.new }
     {
-        self.used = compact(&mut self.memory[..self.used], step);
+        self.used = compact(&mut self.lines[..self.used], step);
     }
 
     fn count_possible(&self) -> usize
         ensures { result ≡ length (flat_map kept (in_use C.Condition.meaning self.now)) }
     {
-        self.as_slice()
+        self.lines_in_use()
             .iter()
             .filter(|line| !line.condition.impossible())
             .count()
@@ -81,43 +51,43 @@ impl<'a, C: Condition> Lines<'a, C> {
     // It adds no more than are possible, so those that it adds are counted only where they might not fit.
     fn has_room(&self, count: usize, update: &Update) -> bool
         requires { count ≡ length (flat_map kept (in_use C.Condition.meaning self.now)) }
-        ensures { result ≡ nat_le (length (updated_lines (rewrite update.now) (in_use C.Condition.meaning self.now))) (length self.now.memory.now) }
+        ensures { result ≡ nat_le (length (updated_lines (rewrite update.now) (in_use C.Condition.meaning self.now))) (length self.now.lines.now) }
     {
-        let room = self.memory.len() - count;
-        count <= room || update.count_forks(self.as_slice()) <= room
+        let room = self.lines.len() - count;
+        count <= room || update.count_forks(self.lines_in_use()) <= room
     }
 
     // Drops impossible lines. Where all are possible, as the count says, nothing is to be moved.
-    fn clear(&mut self, count: usize)
+    fn clear_lines(&mut self, count: usize)
         requires { count ≡ length (flat_map kept (in_use C.Condition.meaning self.old)) }
         ensures { Became C.Condition.meaning (flat_map kept (in_use C.Condition.meaning self.old)) self.old self.new }
     {
         if count < self.used {
-            self.retain_map(Line::possible);
+            self.retain_lines(Line::possible);
         }
     }
 
-    fn split(&mut self, update: &Update)
-        requires { length (split_lines (rewrite update.now) (in_use C.Condition.meaning self.old)) ≤ length self.old.memory.now }
+    fn split_lines(&mut self, update: &Update)
+        requires { length (split_lines (rewrite update.now) (in_use C.Condition.meaning self.old)) ≤ length self.old.lines.now }
         ensures { Became C.Condition.meaning (split_lines (rewrite update.now) (in_use C.Condition.meaning self.old)) self.old self.new }
     {
         let used = self.used;
         // Lent under a name: of a field that is lent in parts only the length stays known.
-        let memory = &mut *self.memory;
+        let memory = &mut *self.lines;
         let (lines, room) = memory.split_at_mut(used);
         self.used += update.split(lines, room);
     }
 
     // Updates the lines; none where there is no room for what they become.
-    pub(crate) fn update(&mut self, update: &Update) -> Option<()>
+    pub(crate) fn update_lines(&mut self, update: &Update) -> Option<()>
         ensures { Fitted C.Condition.meaning (updated_lines (rewrite update.now) (in_use C.Condition.meaning self.old)) self.old self.new result }
     {
         let count = self.count_possible();
         if !self.has_room(count, update) {
             return None;
         }
-        self.clear(count);
-        self.split(update);
+        self.clear_lines(count);
+        self.split_lines(update);
         Some(())
     }
 }

@@ -88,7 +88,7 @@ module _ {C : Type 0} (m : C → ℕ → Bool) where
   -- A record was taken from the book a to b.
   pub record Taken (read : Result (Call × ℕ) PageFault) (a b : Book C) : Type 0 where
     pub leaves : state m b ≡ left_by (state m a) read
-    pub beyond : drop (reach m a b) b.lines.memory.now ≡ drop (reach m a b) a.lines.memory.now
+    pub beyond : drop (reach m a b) b.lines.now ≡ drop (reach m a b) a.lines.now
     pub possible : Possible (state m a) → Possible (state m b)
     pub lender : SameMemory m a b
 
@@ -96,7 +96,7 @@ module _ {C : Type 0} (m : C → ℕ → Bool) where
   pub record Paged (page : List ℕ) (a b : Book C) (rs : List Reply) : Type 0 where
     pub answers : rs ≡ replies (records page) (state m a)
     pub leaves : state m b ≡ final (records page) (state m a)
-    pub beyond : drop (peak (records page) (state m a)) b.lines.memory.now ≡ drop (peak (records page) (state m a)) a.lines.memory.now
+    pub beyond : drop (peak (records page) (state m a)) b.lines.now ≡ drop (peak (records page) (state m a)) a.lines.now
     pub possible : Possible (state m a) → Possible (state m b)
     pub lender : SameMemory m a b
 

@@ -17,5 +17,5 @@ invariant-loop-item g l =
       room : vec_len l.replies + length left ≤ vec_capacity l.replies;
       lender : SameMemory m l.initial.book l.book;
       possible : Possible s → Possible (state m l.book);
-      beyond : drop top l.book.lines.memory.now ≡ drop top l.initial.book.lines.memory.now;
+      beyond : drop top l.book.lines.now ≡ drop top l.initial.book.lines.now;
     }

@@ -6,10 +6,9 @@ use Rattle.conditions.specs.Choices.{positions}
 use Rattle.conditions.proofs.Meaning.{half_somewhere}
 use Rattle.book.specs.Lines.{inserted_line}
 use Rattle.book.specs.Calls.{position, lines_inserted}
-use Rattle.book.specs.Books.{state}
-use Rattle.book.specs.Memory.{Became}
-use Rattle.book.proofs.Using.{room_found}
-use Rattle.book.proofs.Grounds.{check_passed, check_value, ok_or_told}
+use Rattle.book.specs.Books.{state, Became}
+use Rattle.book.proofs.Using.{room_found, became_leaves}
+use Rattle.book.proofs.Grounds.{check_passed, check_failed, check_value, ok_or_told}
 use Rattle.book.proofs.Meanings.{insert_writes}
 use Rattle.book.proofs.Calling.{stopped, performed}
 use Rattle.book.proofs.book.Book.insert.Goals as goal
@@ -19,7 +18,7 @@ returns-in_err-ok_or g c =
     let m = g.C.Condition.meaning in
     let s = state m c.args.self.now in
     let lines = ap (λ f. s.lines ++ f ∷ []) (c.inserted-line.ensures ∙ ap (λ i. inserted_line i c.args.table c.args.row) (check_value _ _ c.in_ok-position.ensures.found)) in
-    let full = rw c.in_err-ok_or.ensures.ok_part at c.push.ensures in
+    let full = rw c.in_err-ok_or.ensures.ok_part at c.push_line.ensures in
     let p = err_from_is_err_and c.from_residual-in_err-ok_or.result c.from_residual-in_err-ok_or.ensures.1 in
     rw (p.1, p.2, full.1)
     (stopped m refl
@@ -27,7 +26,7 @@ returns-in_err-ok_or g c =
       check_passed _ _ c.in_ok-position.ensures.found,
       inr (
         check_passed _ _ c.in_ok-check_table.ensures,
-        inl (lt-ltb _ _ (omega (arith, full.0, ap length lines)), ok_or_told c.push.result c.in_err-ok_or.ensures.value),
+        inl (lt-ltb _ _ (omega (arith, full.0, ap length lines)), ok_or_told c.push_line.result c.in_err-ok_or.ensures.value),
       ),
     )))
 
@@ -38,11 +37,17 @@ returns g c =
     let s = state m b in
     let n = c.args.number in
     let pending = check_passed _ _ c.in_ok-position.ensures.found in
-    let wrote : Became m (lines_inserted n c.args.table c.args.row s) b.lines c.push.new.self =
-    subst (λ fs. Became m fs b.lines c.push.new.self)
+    let wrote : Became m (lines_inserted n c.args.table c.args.row s) b c.push_line.new.self =
+    subst (λ fs. Became m fs b c.push_line.new.self)
     (ap (λ f. s.lines ++ f ∷ []) (c.inserted-line.ensures ∙ ap (λ i. inserted_line i c.args.table c.args.row) (check_value _ _ c.in_ok-position.ensures.found)))
-    (rw c.in_ok-ok_or.ensures.ok_part at c.push.ensures) in
+    (rw c.in_ok-ok_or.ensures.ok_part at c.push_line.ensures) in
     performed m (pending, (check_passed _ _ c.in_ok-check_table.ensures, (room_found m wrote, tt)))
-    wrote c.len.ensures.count refl refl
+    (c.len.ensures.count ∙ ap length wrote.lines) (became_leaves m wrote) wrote.beyond
     (λ h. All-push _ s.lines _ h (half_somewhere positions (position n s)))
+    wrote.lender
     (insert_writes n s c.in_ok-position.ensures.within c.args.table c.args.row)
+
+pub returns-in_err-check_table : goal.returns-in_err-check_table
+returns-in_err-check_table g c =
+    let p = err_from_is_err_and c.from_residual-in_err-check_table.result c.from_residual-in_err-check_table.ensures.1 in
+    rw (p.1, p.2) (stopped g.C.Condition.meaning refl (inr (check_passed _ _ c.in_ok-position.ensures.found, inl (check_failed _ _ c.in_err-check_table.ensures))))

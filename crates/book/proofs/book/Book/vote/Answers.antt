@@ -30,7 +30,7 @@ returns g c =
     let same : (d : ℕ) → d < 64 → bit d o ≡ (ltb d (2 ^ length s.pending) && speaks_against n s d) =
     λ d l.
     let x = bit_of_and d k f in
-    let z = c.orphans.ensures d l ∙ ap (λ fs. bit d (bit_and k f) && orphaned d fs) c.as_slice.ensures in
+    let z = c.orphans.ensures d l ∙ ap (λ fs. bit d (bit_and k f) && orphaned d fs) c.lines_in_use.ensures in
     let u : bit d k ≡ bit (position n s) d =
     c.verdicts-committing.ensures d l
     ∙ ap (λ q. q d) (c.narrowed.ensures ∙ ap (narrowing positions c.in_ok-position.position true) c.always.ensures ∙ ap (λ i. narrowing positions i true (everywhere positions)) (check_value _ _ c.in_ok-position.ensures.found))

@@ -4,7 +4,7 @@ use Rattle.std.proofs.lemmas.List.{length-map, map-append}
 use Rattle.book.specs.Lines.{seen}
 use Rattle.book.specs.Writes.{rewrite, stay_line, extra_line, split_lines}
 use Rattle.book.proofs.Splitting.{take_past, drop_past}
-use Rattle.book.proofs.lines.Lines.split.Goals as goal
+use Rattle.book.proofs.book.Book.split_lines.Goals as goal
 
 pub split-requires : goal.split-requires
 unfolding split_lines
@@ -37,5 +37,6 @@ returns g c =
       beyond =
           drop_past c.split.new.lines c.split.new.room n k long ∙ s.beyond ∙ sym (drop_past c.split_at_mut-lines.result.0.now c.split_at_mut-lines.result.1.now n k p.front_len)
           ∙ ap (drop (max n (n + k))) (sym p.value);
+      numbers = (refl, refl, refl);
       lender = refl;
     }
