@@ -1,5 +1,5 @@
 -- From the outcome of a call to what its contract says.
-use Rattle.std.proofs.Common.{◌≡◌, ℕ, ◌≤◌, max, Bool, true, length, drop, Ok, Err, sym, refl, ap, ◌∙◌, subst, arith}
+use Rattle.std.proofs.Common.{◌≡◌, ℕ, max, Bool, true, drop, Ok, Err, sym, refl, ap, ◌∙◌, subst}
 use Rattle.book.specs.declared.book.Book.{Book}
 use Rattle.book.specs.declared.faults.BookFault.{BookFault}
 use Rattle.book.specs.Calls.{State, Effect, accepted}
