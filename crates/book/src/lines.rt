@@ -30,7 +30,7 @@ impl<'a, C: Condition> Book<'a, C> {
         Some(())
     }
 
-    // Keeps what the step makes of each line.
+    // Keeps what the step makes of each line in use.
     pub(crate) fn retain_lines<F: Fn(Line<C>) -> Option<Line<C>>>(&mut self, step: F)
         requires { F.IsAlwaysCallable step }
         ensures { (becomes : Fact → List Fact) → Makes C.Condition.meaning (F.post step) becomes → Became C.Condition.meaning (flat_map becomes (in_use C.Condition.meaning self.old)) self.old self.new }
@@ -38,6 +38,7 @@ impl<'a, C: Condition> Book<'a, C> {
         self.used = compact(&mut self.lines[..self.used], step);
     }
 
+    // How many of the lines in use are possible.
     fn count_possible(&self) -> usize
         ensures { result ≡ length (flat_map kept (in_use C.Condition.meaning self.now)) }
     {
@@ -67,6 +68,7 @@ impl<'a, C: Condition> Book<'a, C> {
         }
     }
 
+    // Updates lines that are all possible, where there is room for what is added.
     fn split_lines(&mut self, update: &Update)
         requires { length (split_lines (rewrite update.now) (in_use C.Condition.meaning self.old)) ≤ length self.old.lines.now }
         ensures { Became C.Condition.meaning (split_lines (rewrite update.now) (in_use C.Condition.meaning self.old)) self.old self.new }
@@ -78,7 +80,7 @@ impl<'a, C: Condition> Book<'a, C> {
         self.used += update.split(lines, room);
     }
 
-    // Updates the lines; none where there is no room for what they become.
+    // Updates the lines in use; none where there is no room for what they become.
     pub(crate) fn update_lines(&mut self, update: &Update) -> Option<()>
         ensures { Fitted C.Condition.meaning (updated_lines (rewrite update.now) (in_use C.Condition.meaning self.old)) self.old self.new result }
     {

@@ -1,6 +1,5 @@
 use Rattle.std.proofs.Common.{◌++◌, ◌∷◌, [], length, refl, ap, ◌∙◌, subst, inl, inr, arith}
 use Rattle.std.proofs.lemmas.Bool.{lt-ltb}
-use Rattle.std.proofs.lemmas.Result.{err_from_is_err_and}
 use Rattle.std.proofs.ByRecursion.{All-push}
 use Rattle.conditions.specs.Choices.{positions}
 use Rattle.conditions.proofs.Meaning.{half_somewhere}
@@ -10,7 +9,7 @@ use Rattle.book.specs.Books.{state, Became}
 use Rattle.book.proofs.Using.{room_found, became_leaves}
 use Rattle.book.proofs.Grounds.{check_passed, check_failed, check_value, ok_or_told}
 use Rattle.book.proofs.Meanings.{position_below, insert_writes}
-use Rattle.book.proofs.Calling.{stopped, performed, held_few}
+use Rattle.book.proofs.Calling.{stopped_by, performed, held_few}
 use Rattle.book.proofs.book.Book.insert.Goals as goal
 
 pub returns-in_err-ok_or : goal.returns-in_err-ok_or
@@ -19,9 +18,8 @@ returns-in_err-ok_or g c =
     let s = state m c.args.self.now in
     let lines = ap (λ f. s.lines ++ f ∷ []) (c.inserted-line.ensures ∙ ap (λ i. inserted_line i c.args.table c.args.row) (check_value _ _ c.in_ok-position.ensures)) in
     let full = rw c.in_err-ok_or.ensures.ok_part at c.push_line.ensures in
-    let p = err_from_is_err_and c.from_residual-in_err-ok_or.result c.from_residual-in_err-ok_or.ensures.1 in
-    rw (p.1, p.2, full.1)
-    (stopped m refl
+    rw full.1
+    (stopped_by m _ c.from_residual-in_err-ok_or.ensures.1 refl
     (inr (
       check_passed _ _ c.in_ok-position.ensures,
       inr (
@@ -49,5 +47,5 @@ returns g c =
 
 pub returns-in_err-check_table : goal.returns-in_err-check_table
 returns-in_err-check_table g c =
-    let p = err_from_is_err_and c.from_residual-in_err-check_table.result c.from_residual-in_err-check_table.ensures.1 in
-    rw (p.1, p.2) (stopped g.C.Condition.meaning refl (inr (check_passed _ _ c.in_ok-position.ensures, inl (check_failed _ _ c.in_err-check_table.ensures))))
+    stopped_by g.C.Condition.meaning _ c.from_residual-in_err-check_table.ensures.1 refl
+    (inr (check_passed _ _ c.in_ok-position.ensures, inl (check_failed _ _ c.in_err-check_table.ensures)))
