@@ -81,3 +81,6 @@ returns-in_err-filter g c =
       check_passed _ _ c.in_ok-position.ensures,
       inr (check_passed _ _ c.in_ok-check_table.ensures, inl (ap not t.0, sym (ap BadFilter t.1))),
     ))
+
+pub returns-in_err-position : goal.returns-in_err-position
+returns-in_err-position g c = stopped_by g.C.Condition.meaning _ c.from_residual.ensures.1 refl (inl (check_failed _ _ c.in_err-position.ensures))
