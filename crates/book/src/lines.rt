@@ -10,7 +10,8 @@ use crate::steps::compact;
 use crate::update::Update;
 use conditions::Condition;
 
-// The lines of a book, as a vector in lent memory.
+// The lines of a book, as a vector in lent memory. It is no type of its own: what a struct within a struct was lent, its
+// lender does not know again when it comes back.
 impl<'a, C: Condition> Book<'a, C> {
     pub(crate) fn lines_in_use(&self) -> &[Line<C>]
         ensures { map (seen C.Condition.meaning) result.now ≡ in_use C.Condition.meaning self.now }
@@ -77,7 +78,7 @@ impl<'a, C: Condition> Book<'a, C> {
         // Lent under a name: of a field that is lent in parts only the length stays known.
         let memory = &mut *self.lines;
         let (lines, room) = memory.split_at_mut(used);
-        self.used += update.split(lines, room);
+        self.used = used + update.split(lines, room);
     }
 
     // Updates the lines in use; none where there is no room for what they become.
