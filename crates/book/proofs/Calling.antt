@@ -1,5 +1,7 @@
 -- From the outcome of a call to what its contract says.
-use Rattle.std.proofs.Common.{◌≡◌, ℕ, max, Bool, true, drop, Ok, Err, sym, refl, ap, ◌∙◌, subst}
+use Rattle.std.proofs.Common.{◌≡◌, ℕ, max, Bool, true, drop, Result, Ok, Err, sym, refl, ap, ◌∙◌, subst}
+use Rattle.std.proofs.lemmas.Result.{err_from_is_err_and}
+use Rattle.std.specs.Result.{IsErrAnd}
 use Rattle.book.specs.declared.book.Book.{Book}
 use Rattle.book.specs.declared.faults.BookFault.{BookFault}
 use Rattle.book.specs.Calls.{State, Effect, accepted}
@@ -38,6 +40,10 @@ module _ {C : Type 0} (m : C → ℕ → Bool) {A : Type 0} {e : Effect A} {a : 
 module _ {C : Type 0} (m : C → ℕ → Bool) {A : Type 0} {e : Effect A} {p : State → State → Type 0} {a : Book C} where
   pub stopped : {f : BookFault} → rising 0 (e.grounds (state m a)) ≡ true → Stops (e.grounds (state m a)) f → Performed m e p a a (Err f)
   stopped up is = record { called = refused m up is; plainly = tt }
+
+  -- a fault that was passed up
+  pub stopped_by : (f : BookFault) {r : Result A BookFault} → IsErrAnd r (λ x. x ≡ f) → rising 0 (e.grounds (state m a)) ≡ true → Stops (e.grounds (state m a)) f → Performed m e p a a r
+  stopped_by f {r} by up is = let q = err_from_is_err_and r by in rw (q.1, q.2) (stopped up is)
 
   pub performed : {b : Book C} {n : A} → Clear (e.grounds (state m a))
       → n ≡ e.answer (state m a) → state m b ≡ e.leaves (state m a)

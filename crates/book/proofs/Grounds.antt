@@ -1,6 +1,5 @@
 -- Refusals: what a check says of its ground, what is told, and that the smallest number wins.
-use Rattle.std.proofs.Common.{◌≡◌, ℕ, suc, ◌≤◌, Bool, true, false, ◌&&◌, ltb, ◌⊎◌, List, [], ◌∷◌, Some, None, Option, Ok, Err, refl, ap, inl, inr, arith}
-use Rattle.std.specs.Option.{ok_or}
+use Rattle.std.proofs.Common.{◌≡◌, ℕ, suc, ◌≤◌, Bool, true, false, ◌&&◌, ltb, ◌⊎◌, List, [], ◌∷◌, Ok, Err, refl, ap, inl, inr, arith}
 use Rattle.std.specs.List.{ContainsAt, AllByRecursion}
 use Rattle.std.proofs.lemmas.Bool.{ltb-true, and_parts, both_ways}
 use Rattle.book.specs.declared.faults.BookFault.{BookFault}
@@ -18,11 +17,6 @@ module _ {B : Type 0} (g : Ground) (c : B) where
 
   pub check_failed : {e : BookFault} → Err e ≡ refusing (g ∷ []) c → (g.applies ≡ true) × (g.fault ≡ e)
   check_failed {e} is = (grind arith, grind arith)
-
--- where `ok_or` refuses, it is with the fault that it was given
-pub ok_or_told : {A E : Type 0} (o : Option A) {e f : E} → Err e ≡ ok_or o f → f ≡ e
-ok_or_told None h = cc
-ok_or_told (Some a) h = cc
 
 -- none applies
 abbrev pub Clear : List Ground → Type 0

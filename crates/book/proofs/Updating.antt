@@ -8,30 +8,13 @@ use Rattle.book.specs.Lines.{Fact, impossible, kept}
 use Rattle.book.proofs.Making.{made_fewer}
 use Rattle.book.specs.Writes.{Rewrite, rewritten, original, copy, forked, stay_line, extra_line, split_lines, updated_lines}
 
-module _ (u : Rewrite) (f : Fact) where
-  -- a line that is not touched
-  module _ (left : false ≡ rewritten u f) where
-    pub left_stays : stay_line u f ≡ f
-    left_stays = rw (sym left)
+-- a line that is not touched
+module _ (u : Rewrite) (f : Fact) (left : false ≡ rewritten u f) where
+  pub left_stays : stay_line u f ≡ f
+  left_stays = rw (sym left)
 
-    pub left_alone : extra_line u f ≡ []
-    left_alone = rw (sym left)
-
-  -- one that is, and of which no original is left
-  module _ (touched : true ≡ rewritten u f) (gone : true ≡ impossible (original u f)) where
-    pub copy_stays : copy u f ≡ stay_line u f
-    copy_stays = rw (sym touched, sym gone)
-
-    pub none_added : extra_line u f ≡ []
-    none_added = rw (sym touched, sym gone)
-
-  -- one of which it is left
-  module _ (touched : true ≡ rewritten u f) (there : false ≡ impossible (original u f)) where
-    pub original_stays : original u f ≡ stay_line u f
-    original_stays = rw (sym touched, sym there)
-
-    pub copy_added : (b : Bool) → b ≡ impossible (copy u f) → extra_line u f ≡ cond b [] (copy u f ∷ [])
-    copy_added b e = rw (sym touched, sym there, sym e)
+  pub left_alone : extra_line u f ≡ []
+  left_alone = rw (sym left)
 
 -- an impossible line adds none
 none_of_none : (u : Rewrite) (f : Fact) → impossible f ≡ true → extra_line u f ≡ []

@@ -1,8 +1,9 @@
 -- A book in memory, and what every call promises of it.
-use Rattle.std.specs.Prelude.{◌≡◌, ℕ, ◌^◌, ◌<◌, max, Bool, false, List, length, drop, Some, None, Option, IfOk, Err, Result}
+use Rattle.std.specs.Prelude.{◌≡◌, ℕ, ◌^◌, ◌<◌, max, Bool, false, List, length, drop, IfOk, Ok, Err, Result}
 use Rattle.std.specs.List.{AllByRecursion}
 use Rattle.book.specs.declared.book.Book.{Book}
 use Rattle.book.specs.declared.faults.BookFault.{BookFault}
+use Rattle.book.specs.declared.faults.BookFault.TheVariants.{NoRoom}
 use Rattle.book.specs.Lines.{Fact, facts, impossible}
 use Rattle.book.specs.declared.vote.Vote.{Vote}
 use Rattle.book.specs.Votes.{Says}
@@ -50,9 +51,9 @@ module _ {C : Type 0} (m : C → ℕ → Bool) where
     pub lender : SameMemory a b
 
   -- A write that leaves fs, where there is room for them; where there is none, it writes nothing and says so.
-  abbrev pub Fitted : List Fact → Book C → Book C → Option (Unit {0}) → Type 0
-  Fitted fs a b (Some _) = Became fs a b
-  Fitted fs a b None = (length a.lines.now < length fs) × (b ≡ a)
+  abbrev pub Fitted : List Fact → Book C → Book C → Result (Unit {0}) BookFault → Type 0
+  Fitted fs a b (Ok _) = Became fs a b
+  Fitted fs a b (Err e) = (e ≡ NoRoom) × (length a.lines.now < length fs) × (b ≡ a)
 
   -- A call took the book a to b, and answered r.
   --   answers   the reply is the one defined, and

@@ -51,7 +51,7 @@ module _ (u : Rewrite) where
   abbrev pub extra_line : Fact → List Fact
   extra_line f = cond (rewritten f) (cond (impossible (original f)) [] (kept (copy f))) []
 
-  -- of which there is one where both are possible
+  -- A line makes two where it is touched, and both are possible.
   abbrev pub forked : Fact → Bool
   forked f = rewritten f && (not (impossible (original f)) && not (impossible (copy f)))
 

@@ -137,7 +137,7 @@ impl<'a, C: Condition> Book<'a, C> {
         let position = self.position(number)?;
         check_table(table)?;
         let line = Line::inserted(position, table, row);
-        self.push_line(line).ok_or(BookFault::NoRoom)?;
+        self.push_line(line)?;
         Ok(self.len())
     }
 
@@ -178,7 +178,7 @@ impl<'a, C: Condition> Book<'a, C> {
             filter,
             change,
         };
-        self.update_lines(&update).ok_or(BookFault::NoRoom)?;
+        self.update_lines(&update)?;
         Ok(self.len())
     }
 

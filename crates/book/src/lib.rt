@@ -9,7 +9,6 @@ mod filter;
 mod line;
 mod lines;
 mod row;
-mod steps;
 mod tables;
 mod update;
 mod vote;

@@ -5,12 +5,33 @@ ghost use Rattle.book.specs.Writes.{rewrite, updated_lines, split_lines};
 ghost use Rattle.book.specs.Books.{in_use, Became, Fitted};
 
 use crate::book::Book;
+use crate::faults::BookFault;
 use crate::line::Line;
-use crate::steps::compact;
 use crate::update::Update;
 use conditions::Condition;
 
-// The lines of a book, as a vector in lent memory.
+// Keeps what the step makes of each line in the first places, and says how many there are.
+// A counted loop: it writes behind the place it reads, which no iterator lends.
+fn compact<C: Condition, F: Fn(Line<C>) -> Option<Line<C>>>(
+    lines: &mut [Line<C>],
+    step: F,
+) -> usize
+    requires { F.IsAlwaysCallable step }
+    ensures fewer { result ≤ length lines.old }
+    ensures lines { (becomes : Fact → List Fact) → Makes C.Condition.meaning (F.post step) becomes → facts C.Condition.meaning result lines.new ≡ flat_map becomes (map (seen C.Condition.meaning) lines.old) }
+{
+    let mut count = 0;
+    for at in 0..lines.len() {
+        if let Some(line) = step(lines[at]) {
+            lines[count] = line;
+            count += 1;
+        }
+    }
+    count
+}
+
+// The lines of a book, as a vector in lent memory. It is no type of its own: what a struct within a struct was lent, its
+// lender does not know again when it comes back.
 impl<'a, C: Condition> Book<'a, C> {
     pub(crate) fn lines_in_use(&self) -> &[Line<C>]
         ensures { map (seen C.Condition.meaning) result.now ≡ in_use C.Condition.meaning self.now }
@@ -18,19 +39,19 @@ impl<'a, C: Condition> Book<'a, C> {
         &self.lines[..self.used]
     }
 
-    // Adds a line behind those in use; none where there is no room for it.
-    pub(crate) fn push_line(&mut self, line: Line<C>) -> Option<()>
+    // Adds a line behind those in use.
+    pub(crate) fn push_line(&mut self, line: Line<C>) -> Result<(), BookFault>
         ensures { Fitted C.Condition.meaning (in_use C.Condition.meaning self.old ++ seen C.Condition.meaning line ∷ []) self.old self.new result }
     {
         if self.used >= self.lines.len() {
-            return None;
+            return Err(BookFault::NoRoom);
         }
         self.lines[self.used] = line;
         self.used += 1;
-        Some(())
+        Ok(())
     }
 
-    // Keeps what the step makes of each line.
+    // Keeps what the step makes of each line in use.
     pub(crate) fn retain_lines<F: Fn(Line<C>) -> Option<Line<C>>>(&mut self, step: F)
         requires { F.IsAlwaysCallable step }
         ensures { (becomes : Fact → List Fact) → Makes C.Condition.meaning (F.post step) becomes → Became C.Condition.meaning (flat_map becomes (in_use C.Condition.meaning self.old)) self.old self.new }
@@ -38,6 +59,7 @@ impl<'a, C: Condition> Book<'a, C> {
         self.used = compact(&mut self.lines[..self.used], step);
     }
 
+    // How many of the lines in use are possible.
     fn count_possible(&self) -> usize
         ensures { result ≡ length (flat_map kept (in_use C.Condition.meaning self.now)) }
     {
@@ -67,6 +89,7 @@ impl<'a, C: Condition> Book<'a, C> {
         }
     }
 
+    // Updates lines that are all possible, where there is room for what is added.
     fn split_lines(&mut self, update: &Update)
         requires { length (split_lines (rewrite update.now) (in_use C.Condition.meaning self.old)) ≤ length self.old.lines.now }
         ensures { Became C.Condition.meaning (split_lines (rewrite update.now) (in_use C.Condition.meaning self.old)) self.old self.new }
@@ -75,19 +98,19 @@ impl<'a, C: Condition> Book<'a, C> {
         // Lent under a name: of a field that is lent in parts only the length stays known.
         let memory = &mut *self.lines;
         let (lines, room) = memory.split_at_mut(used);
-        self.used += update.split(lines, room);
+        self.used = used + update.split(lines, room);
     }
 
-    // Updates the lines; none where there is no room for what they become.
-    pub(crate) fn update_lines(&mut self, update: &Update) -> Option<()>
+    // Updates the lines in use.
+    pub(crate) fn update_lines(&mut self, update: &Update) -> Result<(), BookFault>
         ensures { Fitted C.Condition.meaning (updated_lines (rewrite update.now) (in_use C.Condition.meaning self.old)) self.old self.new result }
     {
         let count = self.count_possible();
         if !self.has_room(count, update) {
-            return None;
+            return Err(BookFault::NoRoom);
         }
         self.clear_lines(count);
         self.split_lines(update);
-        Some(())
+        Ok(())
     }
 }

@@ -1,6 +1,5 @@
 use Rattle.std.proofs.Common.{length, not, refl, ap, ◌∙◌, subst, inl, inr, rules}
 use Rattle.std.specs.List.{flat_map}
-use Rattle.std.proofs.lemmas.Result.{err_from_is_err_and}
 use Rattle.book.specs.Filters.{passes, passes_checked}
 use Rattle.book.specs.Writes.{deleted_line}
 use Rattle.book.specs.Calls.{position, lines_deleted}
@@ -8,7 +7,7 @@ use Rattle.book.specs.Books.{state, Became}
 use Rattle.book.proofs.Using.{became_leaves}
 use Rattle.book.proofs.Grounds.{check_passed, check_failed, check_value}
 use Rattle.book.proofs.Meanings.{delete_writes}
-use Rattle.book.proofs.Calling.{stopped, performed}
+use Rattle.book.proofs.Calling.{stopped_by, performed}
 use Rattle.book.proofs.Possibly.{deleted_possible}
 use Rattle.book.proofs.book.Book.delete.Goals as goal
 
@@ -31,5 +30,5 @@ returns g c =
 
 pub returns-in_err-check_table : goal.returns-in_err-check_table
 returns-in_err-check_table g c =
-    let p = err_from_is_err_and c.from_residual-in_err-check_table.result c.from_residual-in_err-check_table.ensures.1 in
-    rw (p.1, p.2) (stopped g.C.Condition.meaning refl (inr (check_passed _ _ c.in_ok-position.ensures.found, inl (check_failed _ _ c.in_err-check_table.ensures))))
+    stopped_by g.C.Condition.meaning _ c.from_residual-in_err-check_table.ensures.1 refl
+    (inr (check_passed _ _ c.in_ok-position.ensures.found, inl (check_failed _ _ c.in_err-check_table.ensures)))

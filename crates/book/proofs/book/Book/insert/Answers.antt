@@ -1,6 +1,5 @@
-use Rattle.std.proofs.Common.{◌++◌, ◌∷◌, [], length, refl, ap, ◌∙◌, subst, inl, inr, arith}
+use Rattle.std.proofs.Common.{◌++◌, ◌∷◌, [], length, sym, refl, ap, ◌∙◌, subst, inl, inr, arith}
 use Rattle.std.proofs.lemmas.Bool.{lt-ltb}
-use Rattle.std.proofs.lemmas.Result.{err_from_is_err_and}
 use Rattle.std.proofs.ByRecursion.{All-push}
 use Rattle.conditions.specs.Choices.{positions}
 use Rattle.conditions.proofs.Meaning.{half_somewhere}
@@ -8,25 +7,24 @@ use Rattle.book.specs.Lines.{inserted_line}
 use Rattle.book.specs.Calls.{position, lines_inserted}
 use Rattle.book.specs.Books.{state, Became}
 use Rattle.book.proofs.Using.{room_found, became_leaves}
-use Rattle.book.proofs.Grounds.{check_passed, check_failed, check_value, ok_or_told}
+use Rattle.book.proofs.Grounds.{check_passed, check_failed, check_value}
 use Rattle.book.proofs.Meanings.{insert_writes}
-use Rattle.book.proofs.Calling.{stopped, performed}
+use Rattle.book.proofs.Calling.{stopped_by, performed}
 use Rattle.book.proofs.book.Book.insert.Goals as goal
 
-pub returns-in_err-ok_or : goal.returns-in_err-ok_or
-returns-in_err-ok_or g c =
+pub returns-in_err-push_line : goal.returns-in_err-push_line
+returns-in_err-push_line g c =
     let m = g.C.Condition.meaning in
     let s = state m c.args.self.now in
     let lines = ap (λ f. s.lines ++ f ∷ []) (c.inserted-line.ensures ∙ ap (λ i. inserted_line i c.args.table c.args.row) (check_value _ _ c.in_ok-position.ensures.found)) in
-    let full = rw c.in_err-ok_or.ensures.ok_part at c.push_line.ensures in
-    let p = err_from_is_err_and c.from_residual-in_err-ok_or.result c.from_residual-in_err-ok_or.ensures.1 in
-    rw (p.1, p.2, full.1)
-    (stopped m refl
+    let full = c.in_err-push_line.ensures in
+    rw full.1.1
+    (stopped_by m _ c.from_residual-in_err-push_line.ensures.1 refl
     (inr (
       check_passed _ _ c.in_ok-position.ensures.found,
       inr (
         check_passed _ _ c.in_ok-check_table.ensures,
-        inl (lt-ltb _ _ (omega (arith, full.0, ap length lines)), ok_or_told c.push_line.result c.in_err-ok_or.ensures.value),
+        inl (lt-ltb _ _ (omega (arith, full.1.0, ap length lines)), sym full.0),
       ),
     )))
 
@@ -40,7 +38,7 @@ returns g c =
     let wrote : Became m (lines_inserted n c.args.table c.args.row s) b c.push_line.new.self =
     subst (λ fs. Became m fs b c.push_line.new.self)
     (ap (λ f. s.lines ++ f ∷ []) (c.inserted-line.ensures ∙ ap (λ i. inserted_line i c.args.table c.args.row) (check_value _ _ c.in_ok-position.ensures.found)))
-    (rw c.in_ok-ok_or.ensures.ok_part at c.push_line.ensures) in
+    c.in_ok-push_line.ensures in
     performed m (pending, (check_passed _ _ c.in_ok-check_table.ensures, (room_found m wrote, tt)))
     (c.len.ensures.count ∙ ap length wrote.lines) (became_leaves m wrote) wrote.beyond
     (λ h. All-push _ s.lines _ h (half_somewhere positions (position n s)))
@@ -49,5 +47,5 @@ returns g c =
 
 pub returns-in_err-check_table : goal.returns-in_err-check_table
 returns-in_err-check_table g c =
-    let p = err_from_is_err_and c.from_residual-in_err-check_table.result c.from_residual-in_err-check_table.ensures.1 in
-    rw (p.1, p.2) (stopped g.C.Condition.meaning refl (inr (check_passed _ _ c.in_ok-position.ensures.found, inl (check_failed _ _ c.in_err-check_table.ensures))))
+    stopped_by g.C.Condition.meaning _ c.from_residual-in_err-check_table.ensures.1 refl
+    (inr (check_passed _ _ c.in_ok-position.ensures.found, inl (check_failed _ _ c.in_err-check_table.ensures)))

@@ -1,6 +1,5 @@
 use Rattle.std.proofs.Common.{◌≡◌, ℕ, Bool, List, length, not, sym, refl, ap, ◌∙◌, subst, inl, inr, arith}
 use Rattle.std.proofs.lemmas.Bool.{lt-ltb}
-use Rattle.std.proofs.lemmas.Result.{err_from_is_err_and}
 use Rattle.book.specs.declared.faults.BookFault.TheVariants.{BadFilter, BadChange}
 use Rattle.book.specs.declared.row.Row.{Row}
 use Rattle.book.specs.Lines.{Fact}
@@ -8,10 +7,10 @@ use Rattle.book.specs.Writes.{updated_lines}
 use Rattle.book.specs.Calls.{rewrite_of}
 use Rattle.book.specs.Books.{state, Became}
 use Rattle.book.proofs.Using.{room_found, became_leaves}
-use Rattle.book.proofs.Grounds.{check_passed, check_failed, check_value, ok_or_told}
+use Rattle.book.proofs.Grounds.{check_passed, check_failed, check_value}
 use Rattle.book.proofs.Meanings.{update_writes}
 use Rattle.book.proofs.Plainly.{update_is_plain, update_leaves_possible}
-use Rattle.book.proofs.Calling.{stopped, performed}
+use Rattle.book.proofs.Calling.{stopped_by, performed}
 use Rattle.book.proofs.book.Book.update.Goals as goal
 
 -- updates that say the same leave the same lines
@@ -21,34 +20,31 @@ same_update table fs x y z = λ t. updated_lines (record { position = x t; table
 
 pub returns-in_err-change : goal.returns-in_err-change
 returns-in_err-change g c =
-    let p = err_from_is_err_and c.from_residual-in_err-change.result c.from_residual-in_err-change.ensures.1 in
     let t = c.in_err-change.ensures in
-    rw (p.1, p.2)
-    (stopped g.C.Condition.meaning refl
+    stopped_by g.C.Condition.meaning _ c.from_residual-in_err-change.ensures.1 refl
     (inr (
       check_passed _ _ c.in_ok-position.ensures.found,
       inr (
         check_passed _ _ c.in_ok-check_table.ensures,
         inr (ap not c.in_ok-filter.ensures.0, inl (ap not t.0, sym (ap BadChange t.1))),
       ),
-    )))
+    ))
 
-pub returns-in_err-ok_or : goal.returns-in_err-ok_or
-returns-in_err-ok_or g c =
+pub returns-in_err-update_lines : goal.returns-in_err-update_lines
+returns-in_err-update_lines g c =
     let m = g.C.Condition.meaning in
     let s = state m c.args.self.now in
     let f = c.in_ok-filter.ensures in
     let h = c.in_ok-change.ensures in
-    let full = rw c.in_err-ok_or.ensures.ok_part at c.update_lines.ensures in
-    let p = err_from_is_err_and c.from_residual-in_err-ok_or.result c.from_residual-in_err-ok_or.ensures.1 in
+    let full = c.in_err-update_lines.ensures in
     let lines = same_update c.args.table s.lines (check_value _ _ c.in_ok-position.ensures.found) f.1 h.1 in
-    rw (p.1, p.2, full.1)
-    (stopped m refl
+    rw full.1.1
+    (stopped_by m _ c.from_residual-in_err-update_lines.ensures.1 refl
     (inr (
       check_passed _ _ c.in_ok-position.ensures.found,
       inr (
         check_passed _ _ c.in_ok-check_table.ensures,
-        inr (ap not f.0, inr (ap not h.0, inl (lt-ltb _ _ (omega (arith, full.0, ap length lines)), ok_or_told c.update_lines.result c.in_err-ok_or.ensures.value))),
+        inr (ap not f.0, inr (ap not h.0, inl (lt-ltb _ _ (omega (arith, full.1.0, ap length lines)), sym full.0))),
       ),
     )))
 
@@ -65,7 +61,7 @@ returns g c =
     let wrote : Became m (updated_lines u s.lines) b c.update_lines.new.self =
     subst (λ fs. Became m fs b c.update_lines.new.self)
     (same_update c.args.table s.lines (check_value _ _ c.in_ok-position.ensures.found) f.1 h.1)
-    (rw c.in_ok-ok_or.ensures.ok_part at c.update_lines.ensures) in
+    c.in_ok-update_lines.ensures in
     performed m (pending, (check_passed _ _ c.in_ok-check_table.ensures, (ap not f.0, (ap not h.0, (room_found m wrote, tt)))))
     (c.len.ensures.count ∙ ap length wrote.lines) (became_leaves m wrote) wrote.beyond
     (λ _. update_leaves_possible u s.lines)
@@ -74,16 +70,17 @@ returns g c =
 
 pub returns-in_err-check_table : goal.returns-in_err-check_table
 returns-in_err-check_table g c =
-    let p = err_from_is_err_and c.from_residual-in_err-check_table.result c.from_residual-in_err-check_table.ensures.1 in
-    rw (p.1, p.2) (stopped g.C.Condition.meaning refl (inr (check_passed _ _ c.in_ok-position.ensures.found, inl (check_failed _ _ c.in_err-check_table.ensures))))
+    stopped_by g.C.Condition.meaning _ c.from_residual-in_err-check_table.ensures.1 refl
+    (inr (check_passed _ _ c.in_ok-position.ensures.found, inl (check_failed _ _ c.in_err-check_table.ensures)))
 
 pub returns-in_err-filter : goal.returns-in_err-filter
 returns-in_err-filter g c =
-    let p = err_from_is_err_and c.from_residual-in_err-filter.result c.from_residual-in_err-filter.ensures.1 in
     let t = c.in_err-filter.ensures in
-    rw (p.1, p.2)
-    (stopped g.C.Condition.meaning refl
+    stopped_by g.C.Condition.meaning _ c.from_residual-in_err-filter.ensures.1 refl
     (inr (
       check_passed _ _ c.in_ok-position.ensures.found,
       inr (check_passed _ _ c.in_ok-check_table.ensures, inl (ap not t.0, sym (ap BadFilter t.1))),
-    )))
+    ))
+
+pub returns-in_err-position : goal.returns-in_err-position
+returns-in_err-position g c = stopped_by g.C.Condition.meaning _ c.from_residual.ensures.1 refl (inl (check_failed _ _ c.in_err-position.ensures.found))

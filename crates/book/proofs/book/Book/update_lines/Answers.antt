@@ -7,7 +7,7 @@ use Rattle.book.proofs.Using.{used_is, became_then}
 use Rattle.book.proofs.book.Book.update_lines.Goals as goal
 
 pub returns-then-not-has_room : goal.returns-then-not-has_room
-returns-then-not-has_room g c = (leb-false _ _ (sym c.if-not-has_room.ensures), refl)
+returns-then-not-has_room g c = (refl, leb-false _ _ (sym c.if-not-has_room.ensures), refl)
 
 pub split_lines-requires : goal.split_lines-requires
 unfolding updated_lines
