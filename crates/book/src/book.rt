@@ -41,6 +41,7 @@ pub fn check_making(capacity: usize, first: u32) -> Result<(), BookFault>
     Ok(())
 }
 
+// A table stays a number: it is compared with those of lines in lent memory, which may hold any.
 fn check_table(table: u8) -> Result<(), BookFault>
     ensures { result ≡ refusing (no_table table ∷ []) tt }
 {

@@ -37,6 +37,7 @@ pub enum BookFault {
     BadMaking,
 }
 
+// One `From` for each fault that `?` passes up, written out: a derived one would have no contract.
 impl From<UnknownField> for FilterFault {
     ghost from_gives = { λ e r. r ≡ NoFilterField e.0 };
 

@@ -7,6 +7,7 @@ use conditions::Condition;
 // A row of a table, and the condition on which it holds.
 #[derive(Clone, Copy)]
 pub struct Line<C> {
+    // Any number: a caller lends lines that may hold anything.
     pub table: u8,
     pub row: Row,
     pub condition: C,

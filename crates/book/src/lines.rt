@@ -1,6 +1,6 @@
 ghost use Rattle.std.specs.Prelude.{◌≡◌, ℕ, ◌≤◌, [], ◌∷◌, ◌++◌, length, List, map, nat_le};
 ghost use Rattle.std.specs.List.{flat_map};
-ghost use Rattle.book.specs.Lines.{Fact, seen, kept, Makes};
+ghost use Rattle.book.specs.Lines.{Fact, seen, facts, kept, Makes};
 ghost use Rattle.book.specs.Writes.{rewrite, updated_lines, split_lines};
 ghost use Rattle.book.specs.Books.{in_use, Became, Fitted};
 
@@ -12,10 +12,7 @@ use conditions::Condition;
 
 // Keeps what the step makes of each line in the first places, and says how many there are.
 // A counted loop: it writes behind the place it reads, which no iterator lends.
-fn compact<C: Condition, F: Fn(Line<C>) -> Option<Line<C>>>(
-    lines: &mut [Line<C>],
-    step: F,
-) -> usize
+fn compact<C: Condition, F: Fn(Line<C>) -> Option<Line<C>>>(lines: &mut [Line<C>], step: F) -> usize
     requires { F.IsAlwaysCallable step }
     ensures fewer { result ≤ length lines.old }
     ensures lines { (becomes : Fact → List Fact) → Makes C.Condition.meaning (F.post step) becomes → facts C.Condition.meaning result lines.new ≡ flat_map becomes (map (seen C.Condition.meaning) lines.old) }

@@ -69,6 +69,7 @@ impl Update {
     }
 
     // Replaces each line that is touched where it stands, puts the other copies into the room behind, and says how many.
+    // They are counted by hand: a place of the room is taken only where there is a copy for it.
     pub(crate) fn split<C: Condition>(&self, lines: &mut [Line<C>], room: &mut [Line<C>]) -> usize
         requires { length (flat_map (extra_line (rewrite self.now)) (map (seen C.Condition.meaning) lines.old)) ≤ length room.old }
         ensures stay { map (seen C.Condition.meaning) lines.new ≡ map (stay_line (rewrite self.now)) (map (seen C.Condition.meaning) lines.old) }

@@ -9,7 +9,7 @@ use conditions::Condition;
 
 // A transaction's vote: yes, or no with the lowest choice in which it commits and a shot has no cue.
 // Not an Option: `None` for yes, or for no, would be no plainer.
-#[derive(Clone, Copy, Debug, PartialEq, Eq)]
+#[derive(Clone, Copy)]
 pub enum Vote {
     Yes,
     No(u8),

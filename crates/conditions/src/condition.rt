@@ -10,7 +10,8 @@ pub trait Condition: Copy {
     fn always() -> Self
         ensures { meaning result ≡ everywhere positions };
 
-    // Holds where the old one does and the transaction at the position ends so.
+    // Holds where the old one does and the transaction at the position ends so. A position and how it ends go along as two:
+    // `Ending { position, commits: true }` at a call would say no more.
     fn narrowed(&self, position: u8, commits: bool) -> Self
         ensures { meaning result ≡ narrowing positions position commits (meaning self.now) };
 

@@ -10,18 +10,11 @@ mod tests {
     use std::process::Abort;
     use std::test::Fail;
 
-    const ROW: Row = Row {
-        first: 0,
-        second: 0,
-        third: 0,
-        fourth: 0,
-    };
-
     // A line for the memory of a book: what it holds does not matter.
     fn blank<C: Condition>() -> Line<C> {
         Line {
             table: 1,
-            row: ROW,
+            row: Row::default(),
             condition: C::always(),
         }
     }

@@ -48,7 +48,7 @@ pub enum Answer {
 }
 
 // The kinds of records.
-#[derive(Clone, Copy, Debug, PartialEq, Eq)]
+#[derive(Clone, Copy)]
 pub enum Kind {
     OpenKind,
     InsertKind,

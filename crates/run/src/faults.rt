@@ -6,16 +6,17 @@ use crate::calls::Answer;
 use book::BookFault;
 
 // Why a record could not be read.
-#[derive(Clone, Copy, Debug, PartialEq, Eq)]
+#[derive(Clone, Copy)]
 pub enum PageFault {
     CutShort,
     UnknownKind,
 }
 
 // A fault, with the place and the kind of its record.
-#[derive(Clone, Copy, Debug, PartialEq, Eq)]
+#[derive(Clone, Copy)]
 pub struct At<F> {
     pub place: usize,
+    // The byte that was read, and no `Kind`: it may name none.
     pub kind: u8,
     pub fault: F,
 }
@@ -30,10 +31,12 @@ pub enum RunFault {
 #[derive(Clone, Copy)]
 pub struct Reply {
     pub place: usize,
+    // The byte, as above.
     pub kind: u8,
     pub outcome: Result<Answer, RunFault>,
 }
 
+// Written out: a derived `From` would have no contract.
 impl From<At<PageFault>> for RunFault {
     ghost from_gives = { λ e r. r ≡ OnPage e };
 

@@ -102,6 +102,7 @@ pub fn decode(page: &[u8], at: usize) -> Result<(Call, usize), PageFault>
 #[derive(Clone, Copy)]
 pub(crate) struct Record {
     pub(crate) place: usize,
+    // The byte: it may name no kind.
     pub(crate) kind: u8,
     pub(crate) read: Result<(Call, usize), PageFault>,
 }

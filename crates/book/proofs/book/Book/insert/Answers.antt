@@ -18,13 +18,13 @@ returns-in_err-push_line g c =
     let s = state m c.args.self.now in
     let lines = ap (λ f. s.lines ++ f ∷ []) (c.inserted-line.ensures ∙ ap (λ i. inserted_line i c.args.table c.args.row) (check_value _ _ c.in_ok-position.ensures.found)) in
     let full = c.in_err-push_line.ensures in
-    rw full.1.1
+    rw full.2
     (stopped_by m _ c.from_residual-in_err-push_line.ensures.1 refl
     (inr (
       check_passed _ _ c.in_ok-position.ensures.found,
       inr (
         check_passed _ _ c.in_ok-check_table.ensures,
-        inl (lt-ltb _ _ (omega (arith, full.1.0, ap length lines)), sym full.0),
+        inl (lt-ltb _ _ (omega (arith, full.1, ap length lines)), sym full.0),
       ),
     )))
 

@@ -38,13 +38,13 @@ returns-in_err-update_lines g c =
     let h = c.in_ok-change.ensures in
     let full = c.in_err-update_lines.ensures in
     let lines = same_update c.args.table s.lines (check_value _ _ c.in_ok-position.ensures.found) f.1 h.1 in
-    rw full.1.1
+    rw full.2
     (stopped_by m _ c.from_residual-in_err-update_lines.ensures.1 refl
     (inr (
       check_passed _ _ c.in_ok-position.ensures.found,
       inr (
         check_passed _ _ c.in_ok-check_table.ensures,
-        inr (ap not f.0, inr (ap not h.0, inl (lt-ltb _ _ (omega (arith, full.1.0, ap length lines)), sym full.0))),
+        inr (ap not f.0, inr (ap not h.0, inl (lt-ltb _ _ (omega (arith, full.1, ap length lines)), sym full.0))),
       ),
     )))
 
