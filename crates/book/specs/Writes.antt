@@ -25,7 +25,7 @@ pub record Rewrite : Type 0 where
 
 -- one in memory, its filter and its change checked
 abbrev pub rewrite : Update → Rewrite
-rewrite u = record { position = u.position; table = u.table; passing = passes_checked u.filter; changing = changed_checked u.change }
+rewrite u = record { position = u.position; table = u.selection.table; passing = passes_checked u.selection.filter; changing = changed_checked u.change }
 
 module _ (u : Rewrite) where
   abbrev pub rewritten : Fact → Bool

@@ -10,11 +10,14 @@ use crate::faults::BookFault;
 use crate::filter::{Filter, RawFilter};
 use crate::line::Line;
 use crate::row::Row;
+use crate::selection::Selection;
 use crate::tables::View;
 use crate::update::Update;
 use crate::vote::{Vote, first_choices, orphans, vote_against};
 use arrayvec::ArrayVec;
 use conditions::{Condition, POSITIONS};
+
+mod lines;
 
 // The most lines that a book can work with.
 const MOST_LINES: usize = 4096;
@@ -22,8 +25,8 @@ const MOST_LINES: usize = 4096;
 // A change book over lent lines. Those in use stand in the first places of the memory.
 #[derive(Drop)]
 pub struct Book<'a, C> {
-    pub(crate) lines: &'a mut [Line<C>],
-    pub(crate) used: usize,
+    lines: &'a mut [Line<C>],
+    used: usize,
     first: u32,
     next: Option<u32>,
     // The numbers of the pending transactions, in order of opening.
@@ -41,7 +44,7 @@ pub fn check_making(capacity: usize, first: u32) -> Result<(), BookFault>
     Ok(())
 }
 
-// A table stays a number: it is compared with those of lines in lent memory, which may hold any.
+// A table stays a number: so does that of a line, a field in which its lender may write any.
 fn check_table(table: u8) -> Result<(), BookFault>
     ensures { result ≡ refusing (no_table table ∷ []) tt }
 {
@@ -149,8 +152,9 @@ impl<'a, C: Condition> Book<'a, C> {
         let position = self.position(number)?;
         check_table(table)?;
         let filter = Filter::try_from(filter)?;
+        let deleted = Selection { table, filter };
         self.retain_lines(|line| {
-            if line.table == table && filter.passes(line.row) {
+            if deleted.touches(&line) {
                 return line.ending(position, false).possible();
             }
             line.possible()
@@ -173,10 +177,10 @@ impl<'a, C: Condition> Book<'a, C> {
         check_table(table)?;
         let filter = Filter::try_from(filter)?;
         let change = Change::try_from(change)?;
+        let selection = Selection { table, filter };
         let update = Update {
             position,
-            table,
-            filter,
+            selection,
             change,
         };
         self.update_lines(&update)?;

@@ -1,4 +1,5 @@
-ghost use Rattle.std.specs.Prelude.{◌≡◌, true, false, None, Some, MatchResult};
+ghost use Rattle.std.specs.Prelude.{◌≡◌, true, false, ok_or, MatchResult};
+ghost use Rattle.book.specs.declared.faults.ChangeFault.TheVariants.{NoOperation};
 ghost use Rattle.book.specs.Filters.{moved, operation_of, changed, good_change, change_fault, changed_checked};
 
 use crate::faults::ChangeFault;
@@ -20,10 +21,6 @@ enum Operation {
     Earlier,
 }
 
-// A number that names no operation.
-#[derive(Clone, Copy)]
-pub(crate) struct UnknownOperation(pub(crate) u8);
-
 // A change that was checked.
 #[derive(Clone, Copy)]
 pub(crate) struct Change {
@@ -33,16 +30,16 @@ pub(crate) struct Change {
 }
 
 impl TryFrom<u8> for Operation {
-    type Error = UnknownOperation;
+    type Error = ChangeFault;
 
-    ghost try_from_gives = { λ n r. MatchResult r (λ o. operation_of n ≡ Some o) (λ e. (operation_of n ≡ None) × (e.0 ≡ n)) };
+    ghost try_from_gives = { λ n r. r ≡ ok_or (operation_of n) (NoOperation n) };
 
-    fn try_from(number: u8) -> Result<Operation, UnknownOperation> {
+    fn try_from(number: u8) -> Result<Operation, ChangeFault> {
         match number {
             0 => Ok(Operation::Set),
             1 => Ok(Operation::Later),
             2 => Ok(Operation::Earlier),
-            _ => Err(UnknownOperation(number)),
+            _ => Err(ChangeFault::NoOperation(number)),
         }
     }
 }
@@ -66,7 +63,7 @@ impl TryFrom<RawChange> for Change {
     ghost try_from_gives = { λ raw r. MatchResult r (λ c. (good_change raw ≡ true) × (changed_checked c ≡ changed raw)) (λ e. (good_change raw ≡ false) × (e ≡ change_fault raw)) };
 
     fn try_from(raw: RawChange) -> Result<Change, ChangeFault> {
-        let field = Field::try_from(raw.field)?;
+        let field = Field::try_from(raw.field).map_err(|_| ChangeFault::NoChangeField(raw.field))?;
         let operation = Operation::try_from(raw.operation)?;
         Ok(Change {
             field,

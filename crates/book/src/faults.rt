@@ -1,11 +1,6 @@
 ghost use Rattle.std.specs.Prelude.{◌≡◌};
-ghost use Rattle.book.specs.declared.faults.FilterFault.TheVariants.{NoFilterField};
-ghost use Rattle.book.specs.declared.faults.ChangeFault.TheVariants.{NoChangeField, NoOperation};
 ghost use Rattle.book.specs.declared.faults.BookFault.TheVariants.{BadFilter, BadChange};
 ghost use Rattle.book.specs.Faults.{refusal};
-
-use crate::change::UnknownOperation;
-use crate::row::UnknownField;
 
 // What is wrong with a filter.
 #[derive(Clone, Copy)]
@@ -37,31 +32,7 @@ pub enum BookFault {
     BadMaking,
 }
 
-// One `From` for each fault that `?` passes up, written out: a derived one would have no contract.
-impl From<UnknownField> for FilterFault {
-    ghost from_gives = { λ e r. r ≡ NoFilterField e.0 };
-
-    fn from(e: UnknownField) -> FilterFault {
-        FilterFault::NoFilterField(e.0)
-    }
-}
-
-impl From<UnknownField> for ChangeFault {
-    ghost from_gives = { λ e r. r ≡ NoChangeField e.0 };
-
-    fn from(e: UnknownField) -> ChangeFault {
-        ChangeFault::NoChangeField(e.0)
-    }
-}
-
-impl From<UnknownOperation> for ChangeFault {
-    ghost from_gives = { λ e r. r ≡ NoOperation e.0 };
-
-    fn from(e: UnknownOperation) -> ChangeFault {
-        ChangeFault::NoOperation(e.0)
-    }
-}
-
+// Written out: a derived `From` would have no contract.
 impl From<FilterFault> for BookFault {
     ghost from_gives = { λ e r. r ≡ BadFilter e };
 

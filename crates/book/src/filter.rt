@@ -37,7 +37,7 @@ impl TryFrom<RawFilter> for Filter {
         if field == 0 {
             return Ok(Filter(None));
         }
-        let field = Field::try_from(field)?;
+        let field = Field::try_from(field).map_err(|_| FilterFault::NoFilterField(field))?;
         if low > high {
             return Err(FilterFault::Backward { low, high });
         }

@@ -1,5 +1,5 @@
-ghost use Rattle.std.specs.Prelude.{◌≡◌};
-ghost use Rattle.book.specs.Lines.{seen, shown, kept, inserted_line, ending};
+ghost use Rattle.std.specs.Prelude.{◌≡◌, not};
+ghost use Rattle.book.specs.Lines.{seen, shown, impossible, kept, inserted_line, ending};
 
 use crate::row::Row;
 use conditions::Condition;
@@ -35,13 +35,16 @@ impl<C: Condition> Line<C> {
         }
     }
 
+    pub(crate) fn is_possible(&self) -> bool
+        ensures { result ≡ not (impossible (seen C.Condition.meaning self.now)) }
+    {
+        !self.condition.impossible()
+    }
+
     // The line, unless it is impossible.
     pub(crate) fn possible(self) -> Option<Line<C>>
         ensures { kept (seen C.Condition.meaning self) ≡ shown C.Condition.meaning result }
     {
-        if self.condition.impossible() {
-            return None;
-        }
-        Some(self)
+        if self.is_possible() { Some(self) } else { None }
     }
 }

@@ -19,14 +19,14 @@ pub(crate) enum Field {
     Fourth,
 }
 
-// A number that names no field.
+// A number that names no field: whoever asked says of what.
 #[derive(Clone, Copy)]
-pub(crate) struct UnknownField(pub(crate) u8);
+pub(crate) struct UnknownField;
 
 impl TryFrom<u8> for Field {
     type Error = UnknownField;
 
-    ghost try_from_gives = { λ n r. MatchResult r (λ f. which n ≡ Some f) (λ e. (which n ≡ None) × (e.0 ≡ n)) };
+    ghost try_from_gives = { λ n r. MatchResult r (λ f. which n ≡ Some f) (λ _. which n ≡ None) };
 
     fn try_from(number: u8) -> Result<Field, UnknownField> {
         match number {
@@ -34,7 +34,7 @@ impl TryFrom<u8> for Field {
             2 => Ok(Field::Second),
             3 => Ok(Field::Third),
             4 => Ok(Field::Fourth),
-            _ => Err(UnknownField(number)),
+            _ => Err(UnknownField),
         }
     }
 }

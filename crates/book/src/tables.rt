@@ -42,7 +42,7 @@ impl View {
     }
 
     // How many distinct rows there are: each counts at its last line.
-    // A loop over what is left: each line is asked about with the lines behind it, which no iterator lends.
+    // `split_first` gives each line with those behind it; a chain would have to show that each slice behind is there.
     pub(crate) fn count_rows<C: Condition>(self, lines: &[Line<C>]) -> usize
         ensures { result ≡ row_count self.table self.choice (map (seen C.Condition.meaning) lines.now) }
     {

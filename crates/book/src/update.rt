@@ -4,26 +4,19 @@ ghost use Rattle.book.specs.Lines.{seen, shown, facts, impossible, ending};
 ghost use Rattle.book.specs.Writes.{rewrite, rewritten, copy, forked, stay_line, extra_line};
 
 use crate::change::Change;
-use crate::filter::Filter;
 use crate::line::Line;
+use crate::selection::Selection;
 use conditions::Condition;
 
 // An update of one table by the transaction at a position.
 #[derive(Clone, Copy)]
 pub(crate) struct Update {
     pub(crate) position: u8,
-    pub(crate) table: u8,
-    pub(crate) filter: Filter,
+    pub(crate) selection: Selection,
     pub(crate) change: Change,
 }
 
 impl Update {
-    fn touches<C: Condition>(&self, line: &Line<C>) -> bool
-        ensures { result ≡ rewritten (rewrite self.now) (seen C.Condition.meaning line.now) }
-    {
-        line.table == self.table && self.filter.passes(line.row)
-    }
-
     // A copy with the changed row, where the transaction commits.
     fn committing<C: Condition>(&self, line: &Line<C>) -> Line<C>
         ensures { seen C.Condition.meaning result ≡ copy (rewrite self.now) (seen C.Condition.meaning line.now) }
@@ -36,16 +29,16 @@ impl Update {
 
     // Whether the line is possible where the transaction ends so.
     fn survives<C: Condition>(&self, line: &Line<C>, commits: bool) -> bool
-        ensures { not result ≡ impossible (ending self.now.position commits (seen C.Condition.meaning line.now)) }
+        ensures { result ≡ not (impossible (ending self.now.position commits (seen C.Condition.meaning line.now))) }
     {
-        !line.ending(self.position, commits).condition.impossible()
+        line.ending(self.position, commits).is_possible()
     }
 
     // Whether an update makes two lines of this one.
     fn forks<C: Condition>(&self, line: &Line<C>) -> bool
         ensures { result ≡ forked (rewrite self.now) (seen C.Condition.meaning line.now) }
     {
-        self.touches(line) && self.survives(line, false) && self.survives(line, true)
+        self.selection.touches(line) && self.survives(line, false) && self.survives(line, true)
     }
 
     // How many lines an update adds.
@@ -62,14 +55,14 @@ impl Update {
         ensures added { shown C.Condition.meaning result.1 ≡ extra_line (rewrite self.now) (seen C.Condition.meaning line.now) }
     {
         let copy = self.committing(line);
-        match line.ending(self.position, false).possible() {
-            None => (copy, None),
-            Some(original) => (original, copy.possible()),
-        }
+        let Some(original) = line.ending(self.position, false).possible() else {
+            return (copy, None);
+        };
+        (original, copy.possible())
     }
 
     // Replaces each line that is touched where it stands, puts the other copies into the room behind, and says how many.
-    // They are counted by hand: a place of the room is taken only where there is a copy for it.
+    // Counted by hand: a chain would change the lines while it hands on their copies, and of such a closure nothing is known.
     pub(crate) fn split<C: Condition>(&self, lines: &mut [Line<C>], room: &mut [Line<C>]) -> usize
         requires { length (flat_map (extra_line (rewrite self.now)) (map (seen C.Condition.meaning) lines.old)) ≤ length room.old }
         ensures stay { map (seen C.Condition.meaning) lines.new ≡ map (stay_line (rewrite self.now)) (map (seen C.Condition.meaning) lines.old) }
@@ -79,7 +72,7 @@ impl Update {
     {
         let mut added = 0;
         for line in lines.iter_mut() {
-            if self.touches(line) {
+            if self.selection.touches(line) {
                 let (stays, copy) = self.split_line(line);
                 *line = stays;
                 if let Some(copy) = copy {

@@ -63,11 +63,11 @@ pub(crate) fn orphans<C: Condition>(lines: &[Line<C>], choices: u64) -> u64
 }
 
 // The choices below a number from 1 to 64.
-pub(crate) fn first_choices(choices: u8) -> u64
-    requires { (1 ≤ choices) × (choices ≤ 2 ^ positions) }
-    ensures { (c : ℕ) → bit c result ≡ nat_lt c choices }
+pub(crate) fn first_choices(count: u8) -> u64
+    requires { (1 ≤ count) × (count ≤ 2 ^ positions) }
+    ensures { (c : ℕ) → bit c result ≡ nat_lt c count }
 {
-    u64::MAX >> (64 - choices)
+    u64::MAX >> (64 - count)
 }
 
 // The vote where these choices speak against the transaction.

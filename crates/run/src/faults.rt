@@ -28,10 +28,11 @@ pub enum RunFault {
     InBook(At<BookFault>),
 }
 
+// What is told of a record.
 #[derive(Clone, Copy)]
 pub struct Reply {
     pub place: usize,
-    // The byte, as above.
+    // The byte that was read, and no `Kind`: it may name none.
     pub kind: u8,
     pub outcome: Result<Answer, RunFault>,
 }
@@ -53,8 +54,8 @@ impl From<At<BookFault>> for RunFault {
     }
 }
 
-// Kept as a method: `From` for `u8` would say no more than the name `number`.
 impl PageFault {
+    // A method and no `From`: a refusal has a number, and carries more.
     pub fn number(self) -> u8
         ensures { result ≡ (page_refusal self).number }
     {
@@ -66,6 +67,7 @@ impl PageFault {
 }
 
 impl RunFault {
+    // A method, as that of a fault of a page.
     pub fn number(self) -> u8
         ensures { result ≡ (run_refusal self).number }
     {

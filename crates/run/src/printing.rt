@@ -8,7 +8,7 @@ use crate::faults::Reply;
 use crate::page::run;
 use book::{Book, Line, Vote};
 use conditions::Condition;
-use std::alloc::{AllocError, Global};
+use std::alloc::Global;
 use std::{fmt, io};
 
 impl fmt::Display for Answer {
@@ -17,10 +17,9 @@ impl fmt::Display for Answer {
     fn fmt<W: fmt::Write>(&self, f: &mut fmt::Formatter<W>) -> fmt::Result {
         match self {
             Answer::Opened(number) => write!(f, "{number}"),
-            Answer::Lines(count) => write!(f, "{count}"),
             Answer::Voted(Vote::Yes) => write!(f, "yes"),
             Answer::Voted(Vote::No(choice)) => write!(f, "no {choice}"),
-            Answer::Rows(count) => write!(f, "{count}"),
+            Answer::Lines(count) | Answer::Rows(count) => write!(f, "{count}"),
         }
     }
 }

@@ -7,7 +7,8 @@ use crate::calls::{Call, Kind};
 use crate::faults::PageFault;
 use book::{RawChange, RawFilter, Row};
 
-// The number of four bytes, the highest first.
+// The number of four bytes, the highest first. Each reader is given just its bytes, as a slice: an array would have to be made
+// of one first, which may fail.
 fn number(bytes: &[u8]) -> u32
     requires { length bytes.now ≡ 4 }
     ensures { result ≡ number_of bytes.now }
@@ -98,7 +99,7 @@ pub fn decode(page: &[u8], at: usize) -> Result<(Call, usize), PageFault>
     Ok((read(kind, body), at + 1 + size))
 }
 
-// A record of a page: its place, its kind, and what was read, with the place behind it.
+// A record of a page: its place, its kind, and what was read, with the place behind it. No `At`: what was read is no fault.
 #[derive(Clone, Copy)]
 pub(crate) struct Record {
     pub(crate) place: usize,

@@ -5,5 +5,5 @@ use Rattle.book.proofs.vote.first_choices.Goals as goal
 
 pub returns : goal.returns
 returns c k =
-    let n = c.args.choices in
+    let n = c.args.count in
     grind (arith, nat_tests, bit_shr k (64 - n) (2 ^ 64 - 1), bit_ones 64 (k + (64 - n)), bit_past 64 (k + (64 - n)) (2 ^ 64 - 1))

@@ -4,7 +4,7 @@ ghost use Rattle.book.specs.Lines.{Fact, seen, facts, kept, Makes};
 ghost use Rattle.book.specs.Writes.{rewrite, updated_lines, split_lines};
 ghost use Rattle.book.specs.Books.{in_use, Became, Fitted};
 
-use crate::book::Book;
+use super::Book;
 use crate::faults::BookFault;
 use crate::line::Line;
 use crate::update::Update;
@@ -27,17 +27,17 @@ fn compact<C: Condition, F: Fn(Line<C>) -> Option<Line<C>>>(lines: &mut [Line<C>
     count
 }
 
-// The lines of a book, as a vector in lent memory. It is no type of its own: what a struct within a struct was lent, its
-// lender does not know again when it comes back.
+// The lines of a book, as a vector in lent memory. As a struct of its own, tried, it was proved; but what a struct within a
+// struct was lent, its lender does not know again when it comes back.
 impl<'a, C: Condition> Book<'a, C> {
-    pub(crate) fn lines_in_use(&self) -> &[Line<C>]
+    pub(super) fn lines_in_use(&self) -> &[Line<C>]
         ensures { map (seen C.Condition.meaning) result.now ≡ in_use C.Condition.meaning self.now }
     {
         &self.lines[..self.used]
     }
 
     // Adds a line behind those in use.
-    pub(crate) fn push_line(&mut self, line: Line<C>) -> Result<(), BookFault>
+    pub(super) fn push_line(&mut self, line: Line<C>) -> Result<(), BookFault>
         ensures { Fitted C.Condition.meaning (in_use C.Condition.meaning self.old ++ seen C.Condition.meaning line ∷ []) self.old self.new result }
     {
         if self.used >= self.lines.len() {
@@ -49,7 +49,7 @@ impl<'a, C: Condition> Book<'a, C> {
     }
 
     // Keeps what the step makes of each line in use.
-    pub(crate) fn retain_lines<F: Fn(Line<C>) -> Option<Line<C>>>(&mut self, step: F)
+    pub(super) fn retain_lines<F: Fn(Line<C>) -> Option<Line<C>>>(&mut self, step: F)
         requires { F.IsAlwaysCallable step }
         ensures { (becomes : Fact → List Fact) → Makes C.Condition.meaning (F.post step) becomes → Became C.Condition.meaning (flat_map becomes (in_use C.Condition.meaning self.old)) self.old self.new }
     {
@@ -62,12 +62,12 @@ impl<'a, C: Condition> Book<'a, C> {
     {
         self.lines_in_use()
             .iter()
-            .filter(|line| !line.condition.impossible())
+            .filter(|line| line.is_possible())
             .count()
     }
 
-    // Whether the memory has room for what an update makes of the lines, of which so many are possible.
-    // It adds no more than are possible, so those that it adds are counted only where they might not fit.
+    // Whether the memory has room for what an update makes of the lines, of which so many are possible: their count is handed
+    // on, so that they are gone through once. It adds no more than those, and what it adds is counted only where it might not fit.
     fn has_room(&self, count: usize, update: &Update) -> bool
         requires { count ≡ length (flat_map kept (in_use C.Condition.meaning self.now)) }
         ensures { result ≡ nat_le (length (updated_lines (rewrite update.now) (in_use C.Condition.meaning self.now))) (length self.now.lines.now) }
@@ -99,7 +99,7 @@ impl<'a, C: Condition> Book<'a, C> {
     }
 
     // Updates the lines in use.
-    pub(crate) fn update_lines(&mut self, update: &Update) -> Result<(), BookFault>
+    pub(super) fn update_lines(&mut self, update: &Update) -> Result<(), BookFault>
         ensures { Fitted C.Condition.meaning (updated_lines (rewrite update.now) (in_use C.Condition.meaning self.old)) self.old self.new result }
     {
         let count = self.count_possible();
