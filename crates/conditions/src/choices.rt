@@ -87,17 +87,12 @@ impl Positions {
     pub(crate) fn mask(self, commits: bool) -> u64
         ensures { (c : ℕ) → c < 2 ^ positions → bit c result ≡ agreeing positions commits self.bits c }
     {
-        let mut verdicts = u64::MAX;
-        // A counted loop: most sets are small, and it stops where the rest of this one is empty.
-        for number in 0..POSITIONS as u8 {
-            if self.bits >> number == 0 {
-                return verdicts;
-            }
-            let position = Position { number };
-            if self.has(position) {
-                verdicts &= position.mask(commits);
-            }
-        }
-        verdicts
+        (0..POSITIONS as u8)
+            .filter_map(Position::new)
+            .filter(|position| self.has(*position))
+            .fold(
+                u64::MAX,
+                |verdicts, position| verdicts & position.mask(commits),
+            )
     }
 }
