@@ -47,6 +47,7 @@ impl Condition for SignedPair {
         let Some(position) = Position::new(position) else {
             return *self;
         };
+        // Tried as one `&mut` to the side that grows: when it comes back, what the other side has is lost.
         if commits {
             SignedPair {
                 committing: self.committing.with(position),

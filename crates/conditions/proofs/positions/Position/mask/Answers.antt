@@ -2,7 +2,7 @@
 use Rattle.std.proofs.Common.{◌≡◌, ℕ, ◌-◌, ◌^◌, ◌<◌, Bool, true, false, cond, get_or, refl, arith}
 use Rattle.conditions.specs.Choices.{positions, bit, same}
 use Rattle.conditions.specs.Kinds.{all_below}
-use Rattle.conditions.specs.declared.choices.TheConstants.{COMMITTING}
+use Rattle.conditions.specs.declared.positions.TheConstants.{COMMITTING}
 use Rattle.conditions.proofs.Meaning.{all_decides}
 use Rattle.conditions.proofs.positions.Position.mask.Goals as goal
 
