@@ -1,6 +1,6 @@
 -- Choices: how the pending transactions end.
 -- A choice is a number. Its bit i, worth 2 ^ i, is 1 where the transaction at position i commits, and 0 where it aborts.
-use Rattle.std.specs.Prelude.{ℕ, ◌+◌, ◌*◌, ◌/◌, ◌%◌, ◌^◌, Bool, true, false, not, ◌==◌}
+use Rattle.std.specs.Prelude.{◌≡◌, ℕ, ◌+◌, ◌*◌, ◌/◌, ◌%◌, ◌^◌, ◌<◌, Bool, true, false, not, ◌==◌}
 
 -- How many positions there are. Every other limit on choices follows from it; the facts about choices are argued for any number.
 abbrev pub positions : ℕ
@@ -9,6 +9,10 @@ positions = 6
 -- bit i of a number
 abbrev pub bit : ℕ → ℕ → Bool
 bit i c = c / 2 ^ i % 2 == 1
+
+-- the word v has a bit for each choice, which says what m says of it
+abbrev pub Tells : ℕ → (ℕ → Bool) → Type 0
+Tells v m = (c : ℕ) → c < 2 ^ positions → bit c v ≡ m c
 
 -- the bit b is s
 abbrev pub same : Bool → Bool → Bool

@@ -1,5 +1,5 @@
 ghost use Rattle.std.specs.Prelude.{◌≡◌, ℕ, ◌^◌, ◌<◌, ◌≤◌, Bool, false};
-ghost use Rattle.conditions.specs.Choices.{positions, bit};
+ghost use Rattle.conditions.specs.Choices.{positions, Tells};
 ghost use Rattle.conditions.specs.Meanings.{everywhere, narrowing, deciding, nowhere};
 
 // A kind of condition. Whoever uses one knows nothing of it but its meaning.
@@ -29,7 +29,7 @@ pub trait Condition: Copy {
 
     // Every choice at once: bit c says whether it holds in c.
     fn verdicts(&self) -> u64
-        ensures { (c : ℕ) → c < 2 ^ positions → bit c result ≡ meaning self.now c };
+        ensures { Tells result (meaning self.now) };
 
     ghost bounded: { (x : Self) (c : ℕ) → 2 ^ positions ≤ c → meaning x c ≡ false };
 }

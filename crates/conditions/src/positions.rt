@@ -1,5 +1,5 @@
 ghost use Rattle.std.specs.Prelude.{◌≡◌, ℕ, ◌^◌, ◌<◌, ◌≤◌, ◌||◌, ◌==◌, MatchOption};
-ghost use Rattle.conditions.specs.Choices.{positions, bit, same, source};
+ghost use Rattle.conditions.specs.Choices.{positions, bit, same, source, Tells};
 ghost use Rattle.conditions.specs.Kinds.{agreeing, skipping};
 
 use crate::choices::{CHOICES, POSITIONS};
@@ -50,7 +50,7 @@ impl Position {
 
     // The choices in which the position ends so, one bit for each.
     pub(crate) fn mask(self, commits: bool) -> u64
-        ensures { (c : ℕ) → c < 2 ^ positions → bit c result ≡ same commits (bit self.number c) }
+        ensures { Tells result (λ c. same commits (bit self.number c)) }
     {
         let ones = COMMITTING[self.number as usize];
         if commits { ones } else { !ones }
@@ -94,7 +94,7 @@ impl Positions {
 
     // The choices in which each of them ends so: one mask for each.
     pub(crate) fn mask(self, commits: bool) -> u64
-        ensures { (c : ℕ) → c < 2 ^ positions → bit c result ≡ agreeing positions commits self.bits c }
+        ensures { Tells result (agreeing positions commits self.bits) }
     {
         (0..POSITIONS as u8)
             .filter_map(Position::new)
