@@ -1,4 +1,4 @@
-ghost use Rattle.std.specs.Prelude.{◌≡◌, ℕ, ◌^◌, ◌<◌, ◌≤◌, [], ◌∷◌, length, ◌==◌, OnOk};
+ghost use Rattle.std.specs.Prelude.{◌≡◌, ◌^◌, ◌<◌, ◌≤◌, [], ◌∷◌, length, ◌==◌, OnOk};
 ghost use Rattle.conditions.specs.Choices.{positions};
 ghost use Rattle.book.specs.Filters.{passes};
 ghost use Rattle.book.specs.Calls.{fresh, refusing, garbled, not_pending, no_table, bad_choice, bad_making, opened, inserted, deleted, updated, decided, counted, position};

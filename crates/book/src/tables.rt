@@ -1,4 +1,4 @@
-ghost use Rattle.std.specs.Prelude.{◌≡◌, ℕ, not, ◌&&◌, List, map};
+ghost use Rattle.std.specs.Prelude.{◌≡◌, not, ◌&&◌, map};
 ghost use Rattle.book.specs.Lines.{seen};
 ghost use Rattle.book.specs.Tables.{same_row, stands, rows, has, row_count};
 

@@ -1,4 +1,3 @@
-ghost use Rattle.std.specs.Prelude.{◌≡◌};
 ghost use Rattle.book.specs.Books.{Called};
 ghost use Rattle.run.specs.Runs.{effect};
 

@@ -1,4 +1,4 @@
-ghost use Rattle.std.specs.Prelude.{◌≡◌, ℕ, ◌≤◌, [], ◌∷◌, ◌++◌, length, List, map, nat_le};
+ghost use Rattle.std.specs.Prelude.{◌≡◌, ◌≤◌, [], ◌∷◌, ◌++◌, length, List, map, nat_le};
 ghost use Rattle.std.specs.List.{flat_map};
 ghost use Rattle.book.specs.Lines.{Fact, seen, facts, kept, Makes};
 ghost use Rattle.book.specs.Writes.{rewrite, updated_lines, split_lines};
