@@ -1,4 +1,4 @@
-ghost use Rattle.std.specs.Prelude.{◌≡◌, ℕ, ◌^◌, ◌<◌, ◌≤◌, Bool, false};
+ghost use Rattle.std.specs.Prelude.{◌≡◌, ℕ, ◌^◌, ◌≤◌, Bool, false};
 ghost use Rattle.conditions.specs.Choices.{positions, Tells};
 ghost use Rattle.conditions.specs.Meanings.{everywhere, narrowing, deciding, nowhere};
 
