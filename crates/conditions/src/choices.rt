@@ -87,7 +87,9 @@ impl Positions {
     pub(crate) fn mask(self, commits: bool) -> u64
         ensures { (c : ℕ) → c < 2 ^ positions → bit c result ≡ agreeing positions commits self.bits c }
     {
+        // Most sets are small: nothing is asked past the last position of this one.
         (0..POSITIONS as u8)
+            .take_while(|number| self.bits >> *number > 0)
             .filter_map(Position::new)
             .filter(|position| self.has(*position))
             .fold(
