@@ -96,7 +96,9 @@ impl Positions {
     pub(crate) fn mask(self, commits: bool) -> u64
         ensures { Tells result (agreeing positions commits self.bits) }
     {
+        // Most sets are small: nothing is asked past the last position of this one.
         (0..POSITIONS as u8)
+            .take_while(|number| self.bits >> *number > 0)
             .filter_map(Position::new)
             .filter(|position| self.has(*position))
             .fold(
