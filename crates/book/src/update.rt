@@ -54,11 +54,13 @@ impl Update {
         ensures stays { seen C.Condition.meaning result.0 ≡ stay_line (rewrite self.now) (seen C.Condition.meaning line.now) }
         ensures added { shown C.Condition.meaning result.1 ≡ extra_line (rewrite self.now) (seen C.Condition.meaning line.now) }
     {
-        let copy = self.committing(line);
         let Some(original) = line.ending(self.position, false).possible() else {
-            return (copy, None);
+            return (self.committing(line), None);
         };
-        (original, copy.possible())
+        if !self.survives(line, true) {
+            return (original, None);
+        }
+        (original, Some(self.committing(line)))
     }
 
     // Replaces each line that is touched where it stands, puts the other copies into the room behind, and says how many.
