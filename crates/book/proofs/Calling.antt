@@ -56,8 +56,5 @@ module _ {C : Type 0} (m : C → ℕ → Bool) {A : Type 0} {e : Effect A} {p : 
 
 -- a call that only reads
 module _ {C : Type 0} (m : C → ℕ → Bool) {A : Type 0} {e : Effect A} {b : Book C} where
-  pub unanswered : {f : BookFault} → rising 0 (e.grounds (state m b)) ≡ true → Stops (e.grounds (state m b)) f → Answered m e b (Err f)
-  unanswered {f} up is = record { answers = sym (stops _ f (e.answer (state m b)) is); told = told 0 _ f up is }
-
   pub answered : {n : A} → Clear (e.grounds (state m b)) → n ≡ e.answer (state m b) → Answered m e b (Ok n)
   answered is gives = record { answers = ap Ok gives ∙ sym (clear _ (e.answer (state m b)) is); told = is }

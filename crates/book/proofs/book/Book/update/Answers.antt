@@ -1,13 +1,12 @@
 use Rattle.std.proofs.Common.{◌≡◌, ℕ, Bool, List, length, not, sym, refl, ap, ◌∙◌, subst, inl, inr, arith}
 use Rattle.std.proofs.lemmas.Bool.{lt-ltb}
-use Rattle.book.specs.declared.faults.BookFault.TheVariants.{BadFilter, BadChange}
 use Rattle.book.specs.declared.row.Row.{Row}
 use Rattle.book.specs.Lines.{Fact}
 use Rattle.book.specs.Writes.{updated_lines}
 use Rattle.book.specs.Calls.{rewrite_of}
 use Rattle.book.specs.Books.{state, Became}
 use Rattle.book.proofs.Using.{room_found, became_leaves}
-use Rattle.book.proofs.Grounds.{check_passed, check_failed, check_value}
+use Rattle.book.proofs.Grounds.{check_passed, check_value}
 use Rattle.book.proofs.Meanings.{update_writes}
 use Rattle.book.proofs.Plainly.{update_is_plain, update_leaves_possible}
 use Rattle.book.proofs.Calling.{stopped_by, performed}
@@ -17,18 +16,6 @@ use Rattle.book.proofs.book.Book.update.Goals as goal
 same_update : (table : ℕ) (fs : List Fact) {i j : ℕ} {p q : Row → Bool} {f h : Row → Row} → i ≡ j → p ≡ q → f ≡ h
     → updated_lines (record { position = i; table = table; passing = p; changing = f }) fs ≡ updated_lines (record { position = j; table = table; passing = q; changing = h }) fs
 same_update table fs x y z = λ t. updated_lines (record { position = x t; table = table; passing = y t; changing = z t }) fs
-
-pub returns-in_err-change : goal.returns-in_err-change
-returns-in_err-change g c =
-    let t = c.in_err-change.ensures in
-    stopped_by g.C.Condition.meaning _ c.from_residual-in_err-change.ensures.1 refl
-    (inr (
-      check_passed _ _ c.in_ok-position.ensures.found,
-      inr (
-        check_passed _ _ c.in_ok-check_table.ensures,
-        inr (ap not c.in_ok-filter.ensures.0, inl (ap not t.0, sym (ap BadChange t.1))),
-      ),
-    ))
 
 pub returns-in_err-update_lines : goal.returns-in_err-update_lines
 returns-in_err-update_lines g c =
@@ -67,20 +54,3 @@ returns g c =
     (λ _. update_leaves_possible u s.lines)
     wrote.lender
     (record { writes = update_writes n s c.in_ok-position.ensures.within u refl; reordered = update_is_plain u s.lines })
-
-pub returns-in_err-check_table : goal.returns-in_err-check_table
-returns-in_err-check_table g c =
-    stopped_by g.C.Condition.meaning _ c.from_residual-in_err-check_table.ensures.1 refl
-    (inr (check_passed _ _ c.in_ok-position.ensures.found, inl (check_failed _ _ c.in_err-check_table.ensures)))
-
-pub returns-in_err-filter : goal.returns-in_err-filter
-returns-in_err-filter g c =
-    let t = c.in_err-filter.ensures in
-    stopped_by g.C.Condition.meaning _ c.from_residual-in_err-filter.ensures.1 refl
-    (inr (
-      check_passed _ _ c.in_ok-position.ensures.found,
-      inr (check_passed _ _ c.in_ok-check_table.ensures, inl (ap not t.0, sym (ap BadFilter t.1))),
-    ))
-
-pub returns-in_err-position : goal.returns-in_err-position
-returns-in_err-position g c = stopped_by g.C.Condition.meaning _ c.from_residual.ensures.1 refl (inl (check_failed _ _ c.in_err-position.ensures.found))

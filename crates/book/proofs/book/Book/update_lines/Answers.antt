@@ -1,13 +1,10 @@
-use Rattle.std.proofs.Common.{◌≤◌, length, sym, refl, ap, arith}
-use Rattle.std.proofs.lemmas.Bool.{leb-true, leb-false}
+use Rattle.std.proofs.Common.{◌≤◌, length, sym, ap, arith}
+use Rattle.std.proofs.lemmas.Bool.{leb-true}
 use Rattle.book.specs.Writes.{rewrite, split_lines, updated_lines}
 use Rattle.book.specs.Books.{in_use}
 use Rattle.book.proofs.Updating.{kept_fewer}
 use Rattle.book.proofs.Using.{used_is, became_then}
 use Rattle.book.proofs.book.Book.update_lines.Goals as goal
-
-pub returns-then-not-has_room : goal.returns-then-not-has_room
-returns-then-not-has_room g c = (refl, leb-false _ _ (sym c.if-not-has_room.ensures), refl)
 
 pub split_lines-requires : goal.split_lines-requires
 unfolding updated_lines

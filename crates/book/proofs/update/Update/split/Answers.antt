@@ -31,6 +31,3 @@ loop-line-preserved g c =
 
 pub returns-clause-stay : goal.returns-clause-stay
 returns-clause-stay g c = (splitting_all c.loop-line.invariant (omega arith)).0
-
-pub returns-clause-added : goal.returns-clause-added
-returns-clause-added g c = (splitting_all c.loop-line.invariant (omega arith)).1
