@@ -1,5 +1,5 @@
 -- The choices that speak against a transaction, all at once.
-use Rattle.std.proofs.Common.{w64, ◌≡◌, ℕ, ◌+◌, ◌-◌, ◌^◌, ◌<◌, ◌≤◌, Bool, true, false, not, ◌&&◌, ◌||◌, eqb, ltb, List, [], ◌∷◌, ◌++◌, map, length, get_or, take, Some, None, Option, inl, inr, sym, ap, ◌∙◌, arith}
+use Rattle.std.proofs.Common.{w64, ◌≡◌, ℕ, ◌+◌, ◌-◌, ◌^◌, ◌<◌, ◌≤◌, Bool, true, not, ◌&&◌, ◌||◌, eqb, ltb, List, [], ◌∷◌, ◌++◌, map, length, get_or, take, Some, None, Option, inl, inr, sym, ap, ◌∙◌, arith}
 use lib.Bits.{bit_and, bit_or}
 use Rattle.std.specs.Int.{trailing_zeros}
 use Rattle.std.specs.List.{find, range_with_len}
@@ -41,9 +41,6 @@ module _ {C : Type 0} (m : C → ℕ → Bool) (c : ℕ) where
           → (bit c (bit_and v (2 ^ 64 - 1 - w)) && not (cued ls)) ≡ (bit c v && not (cued (ls ++ l ∷ [])))
       cue_then w small among is holds =
           grind (arith, nat_tests, bit_of_and c v (2 ^ 64 - 1 - w), bit_not 64 c w small among, cued_push ls l)
-
-      pub cue_else : false ≡ (eqb l.table 2 && eqb l.row.first cue) → (bit c v && not (cued ls)) ≡ (bit c v && not (cued (ls ++ l ∷ [])))
-      cue_else is = let p = cued_push ls l in grind (arith, nat_tests)
 
   -- against the cues in all lines, of the choices a: one shot more
   module _ (cues : List Row) where
