@@ -25,6 +25,7 @@ const MOST_LINES: usize = 4096;
 // A change book over lent lines. Those in use stand in the first places of the memory.
 #[derive(Drop)]
 pub struct Book<'a, C> {
+    // The memory is lent, and as long as its lender likes: no vector of the library takes such.
     lines: &'a mut [Line<C>],
     used: usize,
     first: u32,
@@ -54,7 +55,7 @@ fn check_table(table: u8) -> Result<(), BookFault>
     Ok(())
 }
 
-// Whether the word commits.
+// Whether the word commits. It comes as any number, as a table does.
 fn check_word(word: u8) -> Result<bool, BookFault>
     ensures { result ≡ refusing (garbled word ∷ []) (word == 1) }
 {
@@ -111,6 +112,7 @@ impl<'a, C: Condition> Book<'a, C> {
         1u8 << self.pending.len()
     }
 
+    // A choice stays a number: how many there are changes with what is pending.
     fn check_choice(&self, choice: u8) -> Result<(), BookFault>
         ensures { result ≡ refusing (bad_choice choice (state C.Condition.meaning self.now) ∷ []) tt }
     {

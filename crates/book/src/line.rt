@@ -45,6 +45,6 @@ impl<C: Condition> Line<C> {
     pub(crate) fn possible(self) -> Option<Line<C>>
         ensures { kept (seen C.Condition.meaning self) ≡ shown C.Condition.meaning result }
     {
-        if self.is_possible() { Some(self) } else { None }
+        self.is_possible().then_some(self)
     }
 }

@@ -64,7 +64,7 @@ impl Update {
     }
 
     // Replaces each line that is touched where it stands, puts the other copies into the room behind, and says how many.
-    // Counted by hand: a chain would change the lines while it hands on their copies, and of such a closure nothing is known.
+    // Counted by hand: a chain would need a closure that writes each line and hands on its copy, which is no plainer.
     pub(crate) fn split<C: Condition>(&self, lines: &mut [Line<C>], room: &mut [Line<C>]) -> usize
         requires { length (flat_map (extra_line (rewrite self.now)) (map (seen C.Condition.meaning) lines.old)) ≤ length room.old }
         ensures stay { map (seen C.Condition.meaning) lines.new ≡ map (stay_line (rewrite self.now)) (map (seen C.Condition.meaning) lines.old) }

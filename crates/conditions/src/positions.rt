@@ -29,7 +29,8 @@ pub(crate) struct Positions {
 }
 
 impl Position {
-    // None past the last.
+    // None past the last: a condition is told any number, and each of its calls asks here.
+    // An `if`, since `then_some` would make the position before it was tested.
     pub(crate) fn new(number: u8) -> Option<Position>
         ensures { MatchOption result (positions ≤ number) (λ p. p.number ≡ number) }
     {

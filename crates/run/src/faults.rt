@@ -12,7 +12,8 @@ pub enum PageFault {
     UnknownKind,
 }
 
-// A fault, with the place and the kind of its record.
+// A fault, with the place and the kind of its record. These two stand in a reply as well: a type for them would be one more
+// name on the way to each.
 #[derive(Clone, Copy)]
 pub struct At<F> {
     pub place: usize,

@@ -16,6 +16,7 @@ fn outcome<C: Condition>(book: &mut Book<C>, item: Record) -> Result<Answer, Run
     ensures taken { Taken C.Condition.meaning item.read book.old book.new }
 {
     let Record { place, kind, read } = item;
+    // The same closure twice, over faults of two types: a closure has one.
     let (call, _) = read.map_err(|fault| At { place, kind, fault })?;
     let answer = perform(book, call).map_err(|fault| At { place, kind, fault })?;
     Ok(answer)

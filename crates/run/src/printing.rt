@@ -33,6 +33,7 @@ impl fmt::Display for Reply {
             kind,
             outcome,
         } = self;
+        // Two cases and no method: each prints a line of its own.
         match outcome {
             Ok(answer) => write!(f, "{place} {kind} ok {answer}"),
             Err(fault) => write!(f, "{place} {kind} refused {}", fault.number()),
