@@ -31,7 +31,7 @@ fn is_cue<C: Condition>(line: &Line<C>, cue: u32) -> bool
 // Those of the choices in which no line here has the cue of the music, one bit for each.
 // It looks from the last line back, and stops where no choice is left.
 fn uncued<C: Condition>(lines: &[Line<C>], cue: u32, choices: u64) -> u64
-    ensures { Tells result (λ c. bit c choices && not (has_cue cue (rows 2 c (map (seen C.Condition.meaning) lines.now)))) }
+    ensures { Tells positions result (λ c. bit c choices && not (has_cue cue (rows 2 c (map (seen C.Condition.meaning) lines.now)))) }
 {
     let mut left = choices;
     for line in lines.iter().rev() {
@@ -48,7 +48,7 @@ fn uncued<C: Condition>(lines: &[Line<C>], cue: u32, choices: u64) -> u64
 // Those of the choices in which some shot has no cue. A shot matters only where it holds and no other was found.
 // Its cue mostly stands a little before it, so the lines there are looked at first.
 pub(crate) fn orphans<C: Condition>(lines: &[Line<C>], choices: u64) -> u64
-    ensures { Tells result (λ c. bit c choices && orphaned c (map (seen C.Condition.meaning) lines.now)) }
+    ensures { Tells positions result (λ c. bit c choices && orphaned c (map (seen C.Condition.meaning) lines.now)) }
 {
     let mut found = 0;
     for (at, line) in lines.iter().enumerate() {

@@ -1,8 +1,8 @@
 -- What a chain gives, collected as the bits of one number.
-use Rattle.std.proofs.Common.{◌≡◌, ℕ, zero, suc, ◌+◌, ◌*◌, ◌%◌, ◌^◌, ◌<◌, Bool, ◌&&◌, ltb, leb, eqb, bit_or, Option, List, [], ◌∷◌, ◌++◌, filter, inl, inr, refl, ◌-◌, arith}
+use Rattle.std.proofs.Common.{◌≡◌, ℕ, zero, suc, ◌+◌, ◌*◌, ◌%◌, ◌^◌, ◌<◌, Bool, ◌&&◌, ltb, leb, eqb, bit_or, Option, List, [], ◌∷◌, ◌++◌, filter, inl, inr, arith}
 use Rattle.std.specs.Fn.{Called}
 use Rattle.std.specs.Iterator.{FoldsItems}
-use Rattle.std.specs.List.{list_all, list_any, range_with_len}
+use Rattle.std.specs.List.{list_any, range_with_len}
 use Rattle.std.proofs.lemmas.Bool.{cases_Bool}
 use Rattle.std.proofs.lemmas.Bool.Decides.{nat_tests}
 use Rattle.std.proofs.lemmas.Fn.{fold_over}
@@ -10,9 +10,7 @@ use Rattle.std.proofs.lemmas.Grind.{common_steps}
 use Rattle.std.proofs.lemmas.Iterator.{YieldsList}
 use denote.Param.Members.{Mut}
 use Rattle.conditions.specs.Choices.{bit}
-use Rattle.conditions.proofs.Bits.{bit_of_or, bit_zero, bit_ones, bit_mod, bit_pow}
-use Rattle.conditions.specs.Kinds.{implied}
-use Rattle.std.proofs.lemmas.List.Folds.{list_all-append}
+use Rattle.conditions.proofs.Bits.{bit_of_or, bit_zero, bit_mod, bit_pow}
 
 abbrev pub Collected : List ℕ → ℕ → Type 0
 Collected xs v = (k : ℕ) → k < 64 → bit k v ≡ list_any (λ x. eqb k x) xs
@@ -32,19 +30,3 @@ collected {S} {F} {steps} {g} {f} {s} {xs} {r} ran adds gives =
 pub passing : (p : ℕ → Bool) (a n k : ℕ) → list_any (λ x. eqb k x) (filter p (range_with_len a n)) ≡ (leb a k && ltb k (a + n) && p k)
 passing p a zero k = grind (arith, nat_tests)
 passing p a (suc n) k = elim (cases_Bool (p a)) [ inl t ↦ rw t (grind (arith, nat_tests, passing p (a + 1) n k)) | inr f ↦ rw f (grind (arith, nat_tests, passing p (a + 1) n k)) ]
-
--- What each item asks of the bit k, asked of every bit at once.
-abbrev pub Agreed : {X : Type 0} → (ℕ → X → Bool) → List X → ℕ → Type 0
-Agreed asks xs v = (k : ℕ) → k < 64 → bit k v ≡ list_all (asks k) xs
-
-pub agreed : {S F X : Type 0} {steps : S → Option X → S → Type 0} {g : Mut F (ℕ × (X × Unit {0})) ℕ} {f : F} {s : S} {xs : List X} {r : ℕ} (asks : ℕ → X → Bool) → FoldsItems steps g s f (2 ^ 64 - 1) r
-    → ((v : ℕ) (x : X) (w : ℕ) (q : F) → Called g f (v, (x, tt)) w q → ((k : ℕ) → k < 64 → bit k w ≡ (bit k v && asks k x)) × (q ≡ f)) → YieldsList steps (λ x. x) s xs → Agreed asks xs r
-agreed {S} {F} {X} {steps} {g} {f} {s} {xs} {r} asks ran adds gives =
-    fold_over steps (λ x. x) g (Agreed asks) f
-    (λ ys v x w q j t. let a : ((k : ℕ) → k < 64 → bit k w ≡ (bit k v && asks k x)) × (q ≡ f) = adds v x w q t in (λ k l. grind (arith, common_steps, a.0 k l, j k l, list_all-append (asks k) ys (x ∷ [])), a.1))
-    s xs (2 ^ 64 - 1) r gives.runs (λ k l. bit_ones 64 k l) ran
-
--- asked of those alone that pass a test
-pub all_passing : {X : Type 0} (p f : X → Bool) (xs : List X) → list_all f (filter p xs) ≡ list_all (λ x. implied (p x) (f x)) xs
-all_passing p f [] = refl
-all_passing p f (x ∷ xs) = elim (cases_Bool (p x)) [ inl t ↦ rw t (grind (arith, all_passing p f xs)) | inr e ↦ rw e (grind (arith, all_passing p f xs)) ]

@@ -1,5 +1,5 @@
 -- What a signed pair means, for any number of positions.
-use Rattle.std.proofs.Common.{◌≡◌, ℕ, ◌-◌, ◌*◌, ◌/◌, ◌^◌, ◌<◌, ◌≤◌, Bool, true, false, cond, not, ◌&&◌, ◌||◌, eqb, ltb, ◌⊎◌, Decides, sym, ap, ◌∙◌, inl, inr, arith}
+use Rattle.std.proofs.Common.{◌≡◌, ℕ, ◌+◌, ◌-◌, ◌*◌, ◌/◌, ◌^◌, ◌<◌, ◌≤◌, Bool, true, false, cond, not, ◌&&◌, ◌||◌, eqb, ltb, ◌⊎◌, Decides, sym, ap, ◌∙◌, inl, inr, add-one, arith}
 use mathlib.Core.Path.{fun_ext}
 use lib.Bits.{bit_and, and_le_r}
 use Rattle.std.proofs.lemmas.Nat.{pow_pos, shr_split, mod_below}
@@ -11,6 +11,11 @@ use Rattle.conditions.specs.Kinds.{implied, agreeing, in_pair, skipping, contrad
 use Rattle.conditions.proofs.Bits.{bit_of_and, bit_past, bit_zero, bits_alike}
 use Rattle.conditions.proofs.Sources.{source_below, source_own, source_other}
 use Rattle.conditions.proofs.Meaning.{is_true, alike, all_decides, nowhere_decides, narrowed_past, decided_past}
+
+-- one position more
+pub agreeing_more : (n : ℕ) (s : Bool) (x c : ℕ) → agreeing (n + 1) s x c ≡ (implied (bit n x) (same s (bit n c)) && agreeing n s x c)
+unfolding agreeing
+agreeing_more n s x c = rw (add-one n)
 
 -- positions past the last of the set ask for nothing
 pub agreeing_rest : (k n : ℕ) (s : Bool) (x c : ℕ) → x / 2 ^ k ≡ 0 → k ≤ n → agreeing k s x c ≡ agreeing n s x c

@@ -10,9 +10,9 @@ positions = 6
 abbrev pub bit : ℕ → ℕ → Bool
 bit i c = c / 2 ^ i % 2 == 1
 
--- the word v has a bit for each choice, which says what m says of it
-abbrev pub Tells : ℕ → (ℕ → Bool) → Type 0
-Tells v m = (c : ℕ) → c < 2 ^ positions → bit c v ≡ m c
+-- the word v has a bit for each choice of n positions, which says what m says of it
+abbrev pub Tells : ℕ → ℕ → (ℕ → Bool) → Type 0
+Tells n v m = (c : ℕ) → c < 2 ^ n → bit c v ≡ m c
 
 -- the bit b is s
 abbrev pub same : Bool → Bool → Bool

@@ -29,7 +29,7 @@ pub trait Condition: Copy {
 
     // Every choice at once: bit c says whether it holds in c.
     fn verdicts(&self) -> u64
-        ensures { Tells result (meaning self.now) };
+        ensures { Tells positions result (meaning self.now) };
 
     ghost bounded: { (x : Self) (c : ℕ) → 2 ^ positions ≤ c → meaning x c ≡ false };
 }

@@ -51,7 +51,7 @@ impl Position {
 
     // The choices in which the position ends so, one bit for each.
     pub(crate) fn mask(self, commits: bool) -> u64
-        ensures { Tells result (λ c. same commits (bit self.number c)) }
+        ensures { Tells positions result (λ c. same commits (bit self.number c)) }
     {
         let ones = COMMITTING[self.number as usize];
         if commits { ones } else { !ones }
@@ -95,16 +95,20 @@ impl Positions {
 
     // The choices in which each of them ends so: one mask for each.
     pub(crate) fn mask(self, commits: bool) -> u64
-        ensures { Tells result (agreeing positions commits self.bits) }
+        ensures { Tells positions result (agreeing positions commits self.bits) }
     {
-        // Most sets are small: nothing is asked past the last position of this one.
-        (0..POSITIONS as u8)
-            .take_while(|number| self.bits >> *number > 0)
-            .filter_map(Position::new)
-            .filter(|position| self.has(*position))
-            .fold(
-                u64::MAX,
-                |verdicts, position| verdicts & position.mask(commits),
-            )
+        // A counted loop: as a chain, also one that stops early, it takes near twice the time, and votes ask it of each line.
+        let mut verdicts = u64::MAX;
+        for number in 0..POSITIONS as u8 {
+            // Most sets are small: the rest of this one is empty.
+            if self.bits >> number == 0 {
+                return verdicts;
+            }
+            let position = Position { number };
+            if self.has(position) {
+                verdicts &= position.mask(commits);
+            }
+        }
+        verdicts
     }
 }
