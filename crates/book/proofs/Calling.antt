@@ -1,9 +1,12 @@
 -- From the outcome of a call to what its contract says.
-use Rattle.std.proofs.Common.{◌≡◌, ℕ, max, Bool, true, drop, Result, Ok, Err, sym, refl, ap, ◌∙◌, subst}
+use Rattle.std.proofs.Common.{◌≡◌, ℕ, ◌≤◌, max, Bool, true, length, drop, Result, Ok, Err, sym, refl, ap, ◌∙◌, subst, arith, length-take}
 use Rattle.std.proofs.lemmas.Result.{err_from_is_err_and}
 use Rattle.std.specs.Result.{IsErrAnd}
 use Rattle.book.specs.declared.book.Book.{Book}
 use Rattle.book.specs.declared.faults.BookFault.{BookFault}
+use Rattle.book.specs.declared.pending.Pending.{Pending}
+use Rattle.conditions.specs.Choices.{positions}
+use Rattle.book.specs.Numbers.{held}
 use Rattle.book.specs.Calls.{State, Effect, accepted}
 use Rattle.book.specs.Books.{Possible, state, Called, Performed, Answered}
 use Rattle.book.proofs.Using.{used_is}
@@ -58,3 +61,7 @@ module _ {C : Type 0} (m : C → ℕ → Bool) {A : Type 0} {e : Effect A} {p : 
 module _ {C : Type 0} (m : C → ℕ → Bool) {A : Type 0} {e : Effect A} {b : Book C} where
   pub answered : {n : A} → Clear (e.grounds (state m b)) → n ≡ e.answer (state m b) → Answered m e b (Ok n)
   answered is gives = record { answers = ap Ok gives ∙ sym (clear _ (e.answer (state m b)) is); told = is }
+
+-- no more are pending than there are positions
+pub held_few : (p : Pending) → length (held p) ≤ positions
+held_few p = omega (arith, length-take p.count p.numbers, p.few)

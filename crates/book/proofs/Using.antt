@@ -5,6 +5,7 @@ use Rattle.std.proofs.lemmas.Bool.{le-ltb}
 use Rattle.std.proofs.lemmas.List.{length-map, length-take}
 use Rattle.book.specs.declared.line.Line.{Line}
 use Rattle.book.specs.declared.book.Book.{Book}
+use Rattle.book.specs.Numbers.{held}
 use Rattle.book.specs.Lines.{Fact, seen, facts, kept}
 use Rattle.book.specs.Calls.{with_lines}
 use Rattle.book.specs.Books.{in_use, state, Became}
@@ -45,6 +46,6 @@ module _ {C : Type 0} (m : C → ℕ → Bool) where
     capacity = wrote.size t;
     first = wrote.numbers.0 t;
     next = wrote.numbers.1 t;
-    pending = (wrote.numbers.2 t).items;
+    pending = held (wrote.numbers.2 t);
     lines = wrote.lines t;
   }

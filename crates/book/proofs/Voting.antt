@@ -1,14 +1,14 @@
 -- The choices that speak against a transaction, all at once.
-use Rattle.std.proofs.Common.{w64, ◌≡◌, ℕ, ◌+◌, ◌-◌, ◌^◌, ◌<◌, ◌≤◌, Bool, true, not, ◌&&◌, ◌||◌, eqb, ltb, List, [], ◌∷◌, ◌++◌, map, length, get_or, take, Some, None, Option, inl, inr, sym, ap, ◌∙◌, arith}
+use Rattle.std.proofs.Common.{◌≡◌, ℕ, zero, suc, ◌+◌, ◌-◌, ◌/◌, ◌%◌, ◌^◌, ◌<◌, ◌≤◌, Bool, true, false, cond, not, ◌&&◌, ◌||◌, eqb, ltb, List, [], ◌∷◌, ◌++◌, map, length, get_or, take, Some, None, Option, inl, inr, sym, refl, ap, ◌∙◌, arith}
 use lib.Bits.{bit_and, bit_or}
-use Rattle.std.specs.Int.{trailing_zeros}
+use lib.Count.{count_trailing_zeros, under}
+use native.Mathlib.Nat.{pow-succ'}
 use Rattle.std.specs.List.{find, range_with_len}
-use Rattle.std.proofs.lemmas.Nat.Bits.{bit_at-trailing_zeros}
 use Rattle.std.proofs.lemmas.List.Folds.{list_any-append, list_any_more}
-use Rattle.std.proofs.lemmas.Bool.{cases_lt}
+use Rattle.std.proofs.lemmas.Bool.{cases_lt, lt-ltb}
 use Rattle.std.proofs.lemmas.Bool.Decides.{nat_tests}
 use Rattle.conditions.specs.Choices.{bit}
-use Rattle.conditions.proofs.Bits.{bit_zero, bit_of_and, bit_of_or, bit_not}
+use Rattle.conditions.proofs.Bits.{bit_zero, bit_half, bit_of_and, bit_of_or, bit_not}
 use Rattle.book.specs.declared.row.Row.{Row}
 use Rattle.book.specs.declared.line.Line.{Line}
 use Rattle.book.specs.Lines.{seen}
@@ -75,10 +75,43 @@ module _ {C : Type 0} (m : C → ℕ → Bool) (c : ℕ) where
 pub none_set : (k : ℕ) → lowest_below k (λ c. bit c 0) ≡ None
 none_set k = lowest_is k (λ c. bit c 0) None (λ d l m. bit_zero d)
 
-pub first_set : (x : ℕ) → 0 < x → x < 2 ^ 64 → lowest_below 64 (λ c. bit c x) ≡ Some (trailing_zeros w64 x)
-first_set x h l =
-    let p = bit_at-trailing_zeros w64 x h l in
-    lowest_is 64 (λ c. bit c x) (Some (trailing_zeros w64 x)) (p.0, ap (λ d. eqb d 1) p.1, λ d z m. ap (λ d. eqb d 1) (p.2 d m))
+-- of the k digits from c on
+lowest_bit : (c k x : ℕ) (test : ℕ → Bool) → ((j : ℕ) → test (c + j) ≡ bit j x) → find test (range_with_len c k) ≡ cond (ltb (count_trailing_zeros k x) k) (Some (c + count_trailing_zeros k x)) None
+unfolding count_trailing_zeros
+lowest_bit c zero x test h = refl
+lowest_bit c (suc k) x test h =
+    go (x % 2) refl (lowest_bit (c + 1) k (x / 2) test (λ j. let e : c + 1 + j ≡ c + suc j = omega arith in ap test e ∙ h (suc j) ∙ bit_half j x))
+  where
+    here : test c ≡ eqb (x % 2) 1
+    here = let e : c ≡ c + 0 = omega arith in let f : x / 1 % 2 ≡ x % 2 = omega arith in ap test e ∙ h 0 ∙ ap (λ d. eqb d 1) f
+
+    go : (d : ℕ) → x % 2 ≡ d → find test (range_with_len (c + 1) k) ≡ cond (ltb (count_trailing_zeros k (x / 2)) k) (Some (c + 1 + count_trailing_zeros k (x / 2))) None
+        → cond (test c) (Some c) (find test (range_with_len (c + 1) k)) ≡ cond (ltb (under d (count_trailing_zeros k (x / 2))) (suc k)) (Some (c + under d (count_trailing_zeros k (x / 2)))) None
+    go zero e rest =
+        let f : test c ≡ false = here ∙ ap (λ d. eqb d 1) e in
+        let g : c + 1 + count_trailing_zeros k (x / 2) ≡ c + suc (count_trailing_zeros k (x / 2)) = omega arith in
+        let s : ltb (count_trailing_zeros k (x / 2)) k ≡ ltb (suc (count_trailing_zeros k (x / 2))) (suc k) = grind (arith, nat_tests) in
+        rw f (rest ∙ (λ t. cond (s t) (Some (g t)) None))
+    go (suc zero) e rest =
+        let f : test c ≡ true = here ∙ ap (λ d. eqb d 1) e in
+        let g : c ≡ c + 0 = omega arith in
+        let s : ltb 0 (suc k) ≡ true = lt-ltb 0 (suc k) (omega arith) in
+        rw (f, s) (ap Some g)
+    go (suc (suc d)) e rest = absurd (omega arith)
+
+trailing_below : (k x : ℕ) → 0 < x → x < 2 ^ k → count_trailing_zeros k x < k
+unfolding count_trailing_zeros
+trailing_below zero x h l = absurd (omega arith)
+trailing_below (suc k) x h l = go (x % 2) refl (λ p q. trailing_below k (x / 2) p q)
+  where
+    go : (d : ℕ) → x % 2 ≡ d → (0 < x / 2 → x / 2 < 2 ^ k → count_trailing_zeros k (x / 2) < k) → under d (count_trailing_zeros k (x / 2)) < suc k
+    go zero e rest = let t = rest (omega arith) (omega (arith, pow-succ' 2 k)) in omega arith
+    go (suc d) e rest = omega arith
+
+pub first_set : (k x : ℕ) → 0 < x → x < 2 ^ k → lowest_below k (λ c. bit c x) ≡ Some (count_trailing_zeros k x)
+unfolding lowest_below
+first_set k x h l =
+    let e = lt-ltb _ k (trailing_below k x h l) in lowest_bit 0 k x (λ c. bit c x) (λ j. let z : 0 + j ≡ j = omega arith in ap (λ n. bit n x) z) ∙ (let z : 0 + count_trailing_zeros k x ≡ count_trailing_zeros k x = omega arith in rw (e, z) refl)
 
 -- of the first m alone
 widened : (k m : ℕ) (t u : ℕ → Bool) → m ≤ k → ((d : ℕ) → d < k → t d ≡ (ltb d m && u d)) → (o : Option ℕ) → Finds 0 m u o → Finds 0 k t o

@@ -4,6 +4,7 @@ use Rattle.std.specs.List.{AllByRecursion}
 use Rattle.book.specs.declared.book.Book.{Book}
 use Rattle.book.specs.declared.faults.BookFault.{BookFault}
 use Rattle.book.specs.declared.faults.BookFault.TheVariants.{NoRoom}
+use Rattle.book.specs.Numbers.{held}
 use Rattle.book.specs.Lines.{Fact, facts, impossible}
 use Rattle.book.specs.declared.vote.Vote.{Vote}
 use Rattle.book.specs.Votes.{Says}
@@ -25,7 +26,7 @@ module _ {C : Type 0} (m : C → ℕ → Bool) where
     capacity = length b.lines.now;
     first = b.first;
     next = b.next;
-    pending = b.pending.items;
+    pending = held b.pending;
     lines = in_use b;
   }
 

@@ -11,6 +11,14 @@ pub record Fact : Type 0 where
   pub row : Row
   pub meaning : ℕ → Bool
 
+-- in no choice
+abbrev pub impossible : Fact → Bool
+impossible f = nowhere positions f.meaning
+
+-- a line, unless it is impossible
+abbrev pub kept : Fact → List Fact
+kept f = cond (impossible f) [] (f ∷ [])
+
 -- over a kind of condition with the meaning m
 module _ {C : Type 0} (m : C → ℕ → Bool) where
   abbrev pub seen : Line C → Fact
@@ -25,17 +33,9 @@ module _ {C : Type 0} (m : C → ℕ → Bool) where
   shown None = []
   shown (Some l) = seen l ∷ []
 
-  -- what a step answers for a line is what becomes of it as it is meant
-  abbrev pub Makes : (Line C → Option (Line C) → Type 0) → (Fact → List Fact) → Type 0
-  Makes answers becomes = (l : Line C) (r : Option (Line C)) → answers l r → becomes (seen l) ≡ shown r
-
--- in no choice
-abbrev pub impossible : Fact → Bool
-impossible f = nowhere positions f.meaning
-
--- a line, unless it is impossible
-abbrev pub kept : Fact → List Fact
-kept f = cond (impossible f) [] (f ∷ [])
+  -- what a step answers for a line is its new condition: that line, unless it is impossible, is what becomes of it as it is meant
+  abbrev pub Makes : (Line C → C → Type 0) → (Fact → List Fact) → Type 0
+  Makes answers becomes = (l : Line C) (c : C) → answers l c → becomes (seen l) ≡ kept (seen (record { table = l.table; row = l.row; condition = c }))
 
 -- a line, where the transaction at position i ends as s
 abbrev pub ending : ℕ → Bool → Fact → Fact

@@ -1,6 +1,11 @@
 -- The numbers of transactions.
-use Rattle.std.specs.Prelude.{ℕ, ◌+◌, cond, not, List, Some, None, filter, Option, ◌==◌}
+use Rattle.std.specs.Prelude.{ℕ, ◌+◌, cond, not, List, take, Some, None, filter, Option, ◌==◌}
 use Rattle.std.specs.List.{position}
+use Rattle.book.specs.declared.pending.Pending.{Pending}
+
+-- the numbers that are pending, in order of opening
+abbrev pub held : Pending → List ℕ
+held p = take p.count p.numbers
 
 -- the position of a number: where it stands first
 abbrev pub place : ℕ → List ℕ → Option ℕ

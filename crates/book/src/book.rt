@@ -9,13 +9,13 @@ use crate::change::{Change, RawChange};
 use crate::faults::BookFault;
 use crate::filter::{Filter, RawFilter};
 use crate::line::Line;
+use crate::pending::Pending;
 use crate::row::Row;
 use crate::selection::Selection;
 use crate::tables::View;
 use crate::update::Update;
 use crate::vote::{Vote, first_choices, orphans, vote_against};
-use arrayvec::ArrayVec;
-use conditions::{Condition, POSITIONS};
+use conditions::Condition;
 
 mod lines;
 
@@ -30,8 +30,7 @@ pub struct Book<'a, C> {
     used: usize,
     first: u32,
     next: Option<u32>,
-    // The numbers of the pending transactions, in order of opening.
-    pending: ArrayVec<u32, POSITIONS>,
+    pending: Pending,
     ghost within: { used ≤ length lines.now },
 }
 
@@ -80,7 +79,7 @@ impl<'a, C: Condition> Book<'a, C> {
             used: 0,
             first,
             next: Some(first),
-            pending: ArrayVec::new(),
+            pending: Pending::none(),
         }
     }
 
@@ -98,6 +97,7 @@ impl<'a, C: Condition> Book<'a, C> {
         ensures within { OnOk result (position number (state C.Condition.meaning self.now) < positions) }
     {
         self.pending
+            .as_slice()
             .iter()
             .position(|pending| *pending == number)
             .map(|at| at as u8)
@@ -109,7 +109,7 @@ impl<'a, C: Condition> Book<'a, C> {
         ensures count { result ≡ 2 ^ length (state C.Condition.meaning self.now).pending }
         ensures within { (1 ≤ result) × (result ≤ 2 ^ positions) }
     {
-        1u8 << self.pending.len()
+        1u8 << self.pending.as_slice().len()
     }
 
     // A choice stays a number: how many there are changes with what is pending.
@@ -131,7 +131,7 @@ impl<'a, C: Condition> Book<'a, C> {
         }
         let number = self.next.ok_or(BookFault::NumbersSpent)?;
         check_making(self.lines.len(), self.first)?;
-        self.pending.push(number);
+        self.pending.add(number);
         self.next = number.checked_add(1);
         Ok(number)
     }
@@ -157,9 +157,9 @@ impl<'a, C: Condition> Book<'a, C> {
         let deleted = Selection { table, filter };
         self.retain_lines(|line| {
             if deleted.touches(&line) {
-                return line.ending(position, false).possible();
+                return line.condition.narrowed(position, false);
             }
-            line.possible()
+            line.condition
         });
         Ok(self.len())
     }
@@ -195,11 +195,8 @@ impl<'a, C: Condition> Book<'a, C> {
     {
         let commits = check_word(word)?;
         let position = self.position(number)?;
-        self.retain_lines(|line| {
-            let condition = line.condition.decided(position, commits);
-            Line { condition, ..line }.possible()
-        });
-        self.pending.retain(|pending| *pending != number);
+        self.retain_lines(|line| line.condition.decided(position, commits));
+        self.pending.remove(number);
         Ok(self.len())
     }
 

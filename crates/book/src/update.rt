@@ -65,11 +65,11 @@ impl Update {
 
     // Replaces each line that is touched where it stands, puts the other copies into the room behind, and says how many.
     // Counted by hand: a chain would need a closure that writes each line and hands on its copy, which is no plainer.
-    pub(crate) fn split<C: Condition>(&self, lines: &mut [Line<C>], room: &mut [Line<C>]) -> usize
-        requires { length (flat_map (extra_line (rewrite self.now)) (map (seen C.Condition.meaning) lines.old)) ≤ length room.old }
-        ensures stay { map (seen C.Condition.meaning) lines.new ≡ map (stay_line (rewrite self.now)) (map (seen C.Condition.meaning) lines.old) }
+    pub(crate) fn split<C: Condition>(self, lines: &mut [Line<C>], room: &mut [Line<C>]) -> usize
+        requires { length (flat_map (extra_line (rewrite self)) (map (seen C.Condition.meaning) lines.old)) ≤ length room.old }
+        ensures stay { map (seen C.Condition.meaning) lines.new ≡ map (stay_line (rewrite self)) (map (seen C.Condition.meaning) lines.old) }
         ensures within { result ≤ length room.old }
-        ensures added { facts C.Condition.meaning result room.new ≡ flat_map (extra_line (rewrite self.now)) (map (seen C.Condition.meaning) lines.old) }
+        ensures added { facts C.Condition.meaning result room.new ≡ flat_map (extra_line (rewrite self)) (map (seen C.Condition.meaning) lines.old) }
         ensures beyond { drop result room.new ≡ drop result room.old }
     {
         let mut added = 0;

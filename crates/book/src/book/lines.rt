@@ -10,16 +10,21 @@ use crate::line::Line;
 use crate::update::Update;
 use conditions::Condition;
 
-// Keeps what the step makes of each line in the first places, and says how many there are.
-// A counted loop: it writes behind the place it reads, which no iterator lends.
-fn compact<C: Condition, F: Fn(Line<C>) -> Option<Line<C>>>(lines: &mut [Line<C>], step: F) -> usize
+// Gives each line the condition that the step answers, keeps those that are possible in the first places, and says how many
+// there are. A counted loop: it writes behind the place it reads, which no iterator lends.
+fn compact<C: Condition, F: Fn(Line<C>) -> C>(lines: &mut [Line<C>], step: F) -> usize
     requires { F.IsAlwaysCallable step }
     ensures fewer { result ≤ length lines.old }
     ensures lines { (becomes : Fact → List Fact) → Makes C.Condition.meaning (F.post step) becomes → facts C.Condition.meaning result lines.new ≡ flat_map becomes (map (seen C.Condition.meaning) lines.old) }
 {
     let mut count = 0;
     for at in 0..lines.len() {
-        if let Some(line) = step(lines[at]) {
+        let line = lines[at];
+        let line = Line {
+            condition: step(line),
+            ..line
+        };
+        if line.is_possible() {
             lines[count] = line;
             count += 1;
         }
@@ -48,8 +53,8 @@ impl<'a, C: Condition> Book<'a, C> {
         Ok(())
     }
 
-    // Keeps what the step makes of each line in use.
-    pub(super) fn retain_lines<F: Fn(Line<C>) -> Option<Line<C>>>(&mut self, step: F)
+    // Gives each line in use the condition that the step answers, and drops it where that is impossible.
+    pub(super) fn retain_lines<F: Fn(Line<C>) -> C>(&mut self, step: F)
         requires { F.IsAlwaysCallable step }
         ensures { (becomes : Fact → List Fact) → Makes C.Condition.meaning (F.post step) becomes → Became C.Condition.meaning (flat_map becomes (in_use C.Condition.meaning self.old)) self.old self.new }
     {
@@ -82,7 +87,7 @@ impl<'a, C: Condition> Book<'a, C> {
         ensures { Became C.Condition.meaning (flat_map kept (in_use C.Condition.meaning self.old)) self.old self.new }
     {
         if count < self.used {
-            self.retain_lines(Line::possible);
+            self.retain_lines(|line| line.condition);
         }
     }
 

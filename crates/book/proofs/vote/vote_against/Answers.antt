@@ -8,4 +8,4 @@ pub returns-then-choices-eq0 : goal.returns-then-choices-eq0
 returns-then-choices-eq0 c = sym (ap (λ x. vote_on (lowest_below 64 (λ k. bit k x))) c.if-choices-eq0.true ∙ ap vote_on (none_set 64))
 
 pub returns : goal.returns
-returns c = sym (ap vote_on (first_set c.args.choices (omega arith) (omega arith)))
+returns c = sym (ap vote_on (first_set 64 c.args.choices (omega arith) (omega arith)))

@@ -1,7 +1,6 @@
-use Rattle.std.proofs.Common.{◌≡◌, length, eqb, ap, ◌∙◌, subst, rules}
+use Rattle.std.proofs.Common.{length, eqb, ap, ◌∙◌, subst, rules}
 use Rattle.std.specs.List.{flat_map}
-use Rattle.arrayvec.proofs.ArrayVecLemmas.{filter-from_retain}
-use Rattle.book.specs.Numbers.{others}
+use Rattle.book.specs.Numbers.{held, others}
 use Rattle.book.specs.Lines.{decided_line}
 use Rattle.book.specs.Calls.{position, lines_decided}
 use Rattle.book.specs.Books.{state, Became}
@@ -19,13 +18,12 @@ returns g c =
     let n = c.args.number in
     let commits = eqb c.args.word 1 in
     let pending = check_passed _ _ c.in_ok-position.ensures.found in
-    let left : c.retain.new.self.items ≡ others n c.retain_lines.new.self.pending.items = filter-from_retain _ _ _ (λ x b f y called. search rules) _ _ c.retain.ensures.filtered in
     let wrote : Became m (lines_decided n c.args.word s) b c.retain_lines.new.self =
     subst (λ fs. Became m fs b c.retain_lines.new.self) (λ t. flat_map (decided_line (check_value _ _ c.in_ok-position.ensures.found t) (check_value _ _ c.in_ok-commits.ensures t)) s.lines)
     (c.retain_lines.ensures (decided_line c.in_ok-position.position c.in_ok-commits.commits) (λ l r k. search rules)) in
     performed m (check_passed _ _ c.in_ok-commits.ensures, (pending, tt))
     (c.len.ensures.count ∙ ap length wrote.lines)
-    (λ t. record { capacity = wrote.size t; first = wrote.numbers.0 t; next = wrote.numbers.1 t; pending = (left ∙ ap (λ ps. others n ps.items) wrote.numbers.2) t; lines = wrote.lines t })
+    (λ t. record { capacity = wrote.size t; first = wrote.numbers.0 t; next = wrote.numbers.1 t; pending = (c.remove.ensures ∙ ap (λ ps. others n (held ps)) wrote.numbers.2) t; lines = wrote.lines t })
     wrote.beyond
     (λ _. decided_possible (position n s) commits s.lines)
     wrote.lender

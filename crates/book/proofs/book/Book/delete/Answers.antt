@@ -1,15 +1,30 @@
-use Rattle.std.proofs.Common.{length, not, ap, ◌∙◌, subst, rules}
+use Rattle.std.proofs.Common.{length, not, sym, refl, ap, ◌∙◌, subst, inl, inr, rules}
 use Rattle.std.specs.List.{flat_map}
 use Rattle.book.specs.Filters.{passes, passes_checked}
 use Rattle.book.specs.Writes.{deleted_line}
 use Rattle.book.specs.Calls.{position, lines_deleted}
 use Rattle.book.specs.Books.{state, Became}
 use Rattle.book.proofs.Using.{became_leaves}
-use Rattle.book.proofs.Grounds.{check_passed, check_value}
+use Rattle.book.specs.declared.faults.BookFault.TheVariants.{BadFilter}
+use Rattle.book.proofs.Grounds.{check_passed, check_failed, check_value}
 use Rattle.book.proofs.Meanings.{delete_writes}
-use Rattle.book.proofs.Calling.{performed}
+use Rattle.book.proofs.Calling.{stopped_by, performed}
 use Rattle.book.proofs.Possibly.{deleted_possible}
 use Rattle.book.proofs.book.Book.delete.Goals as goal
+
+pub returns-in_err-check_table : goal.returns-in_err-check_table
+returns-in_err-check_table g c =
+    stopped_by g.C.Condition.meaning _ c.from_residual-in_err-check_table.ensures.1 refl
+    (inr (check_passed _ _ c.in_ok-position.ensures.found, inl (check_failed _ _ c.in_err-check_table.ensures)))
+
+pub returns-in_err-filter : goal.returns-in_err-filter
+returns-in_err-filter g c =
+    let t = c.in_err-filter.ensures in
+    stopped_by g.C.Condition.meaning _ c.from_residual-in_err-filter.ensures.1 refl
+    (inr (
+      check_passed _ _ c.in_ok-position.ensures.found,
+      inr (check_passed _ _ c.in_ok-check_table.ensures, inl (ap not t.0, sym (ap BadFilter t.1))),
+    ))
 
 pub returns : goal.returns
 returns g c =

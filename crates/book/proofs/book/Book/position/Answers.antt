@@ -3,7 +3,7 @@ use Rattle.std.specs.Option.{MatchOption, IsSomeAnd, ok_or}
 use Rattle.std.proofs.lemmas.Iterator.{YieldsList-from_slice}
 use Rattle.std.proofs.lemmas.Iterator.Search.{position_from_yields_List}
 use Rattle.book.specs.declared.faults.BookFault.TheVariants.{NotPending}
-use Rattle.book.specs.Numbers.{place}
+use Rattle.book.specs.Numbers.{held, place}
 use Rattle.book.specs.Calls.{or_zero}
 use Rattle.book.proofs.book.Book.position.Goals as goal
 
@@ -17,7 +17,7 @@ refuses P n (Some x) (Some y) h same = ap Ok (same x y h)
 pub returns-clause-found : goal.returns-clause-found
 returns-clause-found g c =
     let n = c.args.number in
-    let xs = c.args.self.now.pending.items in
+    let xs = held c.args.self.now.pending in
     let found : c.position.result ≡ place n xs =
     position_from_yields_List (λ x. eqb x n) _ _ c.position.result c.position.ensures.ran (YieldsList-from_slice xs cc) (λ x b q k. search (rules, tests)) in
     c.ok_or.ensures.value

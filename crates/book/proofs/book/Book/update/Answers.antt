@@ -1,6 +1,7 @@
 use Rattle.std.proofs.Common.{◌≡◌, ℕ, Bool, List, length, not, sym, refl, ap, ◌∙◌, subst, inl, inr, arith}
 use Rattle.std.proofs.lemmas.Bool.{lt-ltb}
 use Rattle.book.specs.declared.row.Row.{Row}
+use Rattle.book.specs.declared.faults.BookFault.TheVariants.{BadChange}
 use Rattle.book.specs.Lines.{Fact}
 use Rattle.book.specs.Writes.{updated_lines}
 use Rattle.book.specs.Calls.{rewrite_of}
@@ -16,6 +17,18 @@ use Rattle.book.proofs.book.Book.update.Goals as goal
 same_update : (table : ℕ) (fs : List Fact) {i j : ℕ} {p q : Row → Bool} {f h : Row → Row} → i ≡ j → p ≡ q → f ≡ h
     → updated_lines (record { position = i; table = table; passing = p; changing = f }) fs ≡ updated_lines (record { position = j; table = table; passing = q; changing = h }) fs
 same_update table fs x y z = λ t. updated_lines (record { position = x t; table = table; passing = y t; changing = z t }) fs
+
+pub returns-in_err-change : goal.returns-in_err-change
+returns-in_err-change g c =
+    let t = c.in_err-change.ensures in
+    stopped_by g.C.Condition.meaning _ c.from_residual-in_err-change.ensures.1 refl
+    (inr (
+      check_passed _ _ c.in_ok-position.ensures.found,
+      inr (
+        check_passed _ _ c.in_ok-check_table.ensures,
+        inr (ap not c.in_ok-filter.ensures.0, inl (ap not t.0, sym (ap BadChange t.1))),
+      ),
+    ))
 
 pub returns-in_err-update_lines : goal.returns-in_err-update_lines
 returns-in_err-update_lines g c =

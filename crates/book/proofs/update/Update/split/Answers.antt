@@ -14,7 +14,7 @@ bounds-room-added g c =
 pub loop-line-preserved : goal.loop-line-preserved
 loop-line-preserved g c =
     let m = g.C.Condition.meaning in
-    let u = rewrite c.args.self.now in
+    let u = rewrite c.args.self in
     let h = c.loop-line.invariant in
     let is = ap (get_or c.loop-line.lines c.loop-line.line-index) c.line-item.is in
     elim c.if-touches.branch [
