@@ -1,6 +1,6 @@
 -- A page, record by record.
 use Rattle.std.proofs.Common.{◌≡◌, ℕ, zero, suc, ◌+◌, ◌-◌, ◌<◌, ◌≤◌, max, Bool, true, false, cond, leb, ltb, List, [], ◌∷◌, ◌++◌, length, get_or, Some, None, Ok, Err, Option, sym, refl, ap, ◌∙◌, append_assoc, append-nil, ⊎_elim, arith}
-use Rattle.std.proofs.lemmas.Bool.{lt-ltb, le-ltb, cases_lt}
+use Rattle.std.proofs.lemmas.Bool.{leb-true, lt-ltb, le-ltb, cases_lt}
 use Rattle.book.specs.Calls.{State}
 use Rattle.run.specs.declared.calls.Kind.{Kind}
 use Rattle.run.specs.declared.faults.PageFault.TheVariants.{CutShort}
@@ -10,16 +10,19 @@ use Rattle.run.specs.Records.{kind_of, body_size, call_of, part, of_kind, decode
 use Rattle.run.specs.Runs.{record_at, next_of, records_from, records_within, reply_to, left_by, replies, final, peak}
 
 module _ (page : List ℕ) (at : ℕ) (h : at < length page) where
-  of_kind_onward : (o : Option Kind) → at < next_of page (of_kind o page at)
-  of_kind_onward None = h
-  of_kind_onward (Some k) = go (leb (at + 1 + body_size k) (length page))
-    where
-      go : (b : Bool) → at < next_of page (cond b (Ok (call_of k (part page at (body_size k)), at + 1 + body_size k)) (Err CutShort))
-      go true = omega arith
-      go false = h
+  -- the next record begins behind the place, and no further than where the page ends
+  abbrev Onward : ℕ → Type 0
+  Onward n = (at < n) × (n ≤ length page)
 
-  -- the next record begins behind the place
-  onward : at < next_of page (decoded page at)
+  of_kind_onward : (o : Option Kind) → Onward (next_of page (of_kind o page at))
+  of_kind_onward None = (h, omega arith)
+  of_kind_onward (Some k) = go (leb (at + 1 + body_size k) (length page)) refl
+    where
+      go : (b : Bool) → leb (at + 1 + body_size k) (length page) ≡ b → Onward (next_of page (cond b (Ok (call_of k (part page at (body_size k)), at + 1 + body_size k)) (Err CutShort)))
+      go true e = (omega arith, leb-true _ _ e)
+      go false e = (h, omega arith)
+
+  pub onward : Onward (next_of page (decoded page at))
   unfolding decoded
   onward = of_kind_onward (kind_of (get_or page at 0))
 
@@ -40,7 +43,7 @@ records_enough (suc j) (suc k) page at h i =
     ⊎_elim
     (λ (lt : at < length page).
     let next = next_of page (decoded page at) in
-    let on = onward page at lt in
+    let on = (onward page at lt).0 in
     records_more page at lt j ∙ ap (λ rs. record_at page at ∷ rs) (records_enough j k page next (omega arith) (omega arith)) ∙ sym (records_more page at lt k))
     (λ (le : length page ≤ at). records_end (suc j) page at le ∙ sym (records_end (suc k) page at le))
     (cases_lt at (length page))
@@ -49,7 +52,7 @@ pub records_next : (page : List ℕ) (at : ℕ) → at < length page → records
 records_next page at h =
     let k = length page - 1 in
     let e : length page ≡ suc k = omega arith in
-    let on = onward page at h in
+    let on = (onward page at h).0 in
     ap (λ n. records_from n page at) e ∙ records_more page at h k ∙ ap (λ rs. record_at page at ∷ rs) (records_enough k (length page) page (next_of page (decoded page at)) (omega arith) (omega arith))
 
 pub records_done : (page : List ℕ) (at : ℕ) → length page ≤ at → records_within page at ≡ []

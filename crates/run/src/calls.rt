@@ -79,6 +79,13 @@ impl TryFrom<u8> for Kind {
 }
 
 impl Kind {
+    // The kind of this byte, if there is one.
+    pub fn of(byte: u8) -> Option<Kind>
+        ensures { result ≡ kind_of byte }
+    {
+        Kind::try_from(byte).ok()
+    }
+
     // How many bytes the body has.
     pub fn size(self) -> usize
         ensures { result ≡ body_size self }
