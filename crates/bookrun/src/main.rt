@@ -1,6 +1,6 @@
 #![tactic(auto)]
 
-ghost use Rattle.std.specs.Prelude.{◌≡◌, ◌≤◌, take, vec_len, IfOk, IfSome, string_bytes};
+ghost use Rattle.std.specs.Prelude.{◌≡◌, ◌≤◌, take, IfOk, IfSome, string_bytes};
 ghost use Rattle.book.specs.Calls.{fresh};
 ghost use Rattle.run.specs.Runs.{records, replies};
 ghost use Rattle.run.specs.Texts.{text_of};
@@ -18,16 +18,22 @@ const LIMIT: usize = 65536;
 // The lines that the book works with.
 const LINES: usize = 256;
 
-// The input, up to the limit.
-fn slurp<R: Read + Drop>(heap: Global, input: R) -> io::Result<Vec<u8>>
-    ensures within { IfOk result (λ page. vec_len page ≤ LIMIT) }
-    ensures bytes { IfOk result (λ page. IfSome (R.remaining input) (λ bytes. page.items ≡ take LIMIT bytes)) }
+// Reads until the input ends or the page is full, and says how much there was. The page is lent, so that reading takes no
+// memory; and each read is offered all the room that is left, since an input that keeps messages apart drops what one read
+// leaves of a message.
+fn slurp<R: Read>(input: &mut R, page: &mut [u8; LIMIT]) -> io::Result<usize>
+    ensures within { IfOk result (λ count. count ≤ 65536) }
+    ensures bytes { IfOk result (λ count. IfSome (R.remaining input.old) (λ bytes. take count page.new ≡ take 65536 bytes)) }
 {
-    let mut page = Vec::new(heap);
-    input.take(LIMIT as u64).read_to_end(&mut page)?;
-    // No more were read: this says so where the reader's bytes are not known beforehand.
-    page.truncate(LIMIT);
-    Ok(page)
+    let mut count = 0;
+    while count < LIMIT {
+        let more = input.read(&mut page[count..])?;
+        if more == 0 {
+            return Ok(count);
+        }
+        count += more;
+    }
+    Ok(count)
 }
 
 // What is printed of a page: a line for each reply of a book of 256 lines whose first number is 1.
@@ -44,7 +50,8 @@ fn printed(heap: Global, page: &[u8]) -> io::Result<String>
 }
 
 fn main(rt: HostRuntime) -> io::Result<()> {
-    let page = slurp(rt.alloc(), rt.stdin())?;
-    let text = printed(rt.alloc(), page.as_slice())?;
+    let mut page = [0u8; LIMIT];
+    let count = slurp(&mut rt.stdin(), &mut page)?;
+    let text = printed(rt.alloc(), &page[..count])?;
     rt.stdout().write_all(text.as_bytes())
 }
