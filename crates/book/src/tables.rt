@@ -25,7 +25,7 @@ impl View {
     fn shows<C: Condition>(self, line: &Line<C>, row: Row) -> bool
         ensures { result ≡ (stands self.table self.choice (seen C.Condition.meaning line.now) && same_row line.now.row row) }
     {
-        line.row.first == row.first && self.has_line(line) && line.row == row
+        line.row.first == row.first && line.row == row && self.has_line(line)
     }
 
     fn has_row<C: Condition>(self, lines: &[Line<C>], row: Row) -> bool
@@ -49,9 +49,7 @@ impl View {
         let mut count = 0;
         let mut left = lines;
         while let Some((line, rest)) = left.split_first() {
-            if self.is_last(line, rest) {
-                count += 1;
-            }
+            count += usize::from(self.is_last(line, rest));
             left = rest;
         }
         count
